@@ -1,0 +1,3 @@
+-- The laws of areas that the other crates cite.
+pub mod Numbers
+pub mod Same

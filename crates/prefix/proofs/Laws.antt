@@ -1,0 +1,2 @@
+-- The laws of prefixes that the other crates cite.
+pub mod Overlap

@@ -1,0 +1,39 @@
+-- Document 01, Prefix: what a prefix holds, which two overlap, and which are good.
+use Prim.Native.Nat.{ℕ}
+use mathlib.Core.Bool.{Bool, not, _&&_, _||_}
+use mathlib.Core.List.{List, _∷_}
+use lib.ListN.{length, take, drop, replicate}
+use lib.Dec.{eqb, leb, ltb}
+use Rattle.octets.specs.Digits.{bits}
+use Rattle.octets.specs.Runs.{same, allZero}
+use Rattle.prefix.specs.declared.Prefix.{Prefix}
+
+-- the first bits, as many as the prefix's length, equal its own; length 0 means none
+unfoldable pub agrees : Prefix → List ℕ → Bool
+agrees p bytes = ltb 0 (p .len) && same (take (p .len) (bits (p .bytes))) (take (p .len) (bits bytes))
+
+-- an address is 16 bytes
+unfoldable pub holds : Prefix → List ℕ → Bool
+holds p address = eqb (length address) 16 && agrees p address
+
+-- a prefix no shorter
+unfoldable pub holdsPrefix : Prefix → Prefix → Bool
+holdsPrefix p q = leb (p .len) (q .len) && agrees p (q .bytes)
+
+unfoldable pub overlap : Prefix → Prefix → Bool
+overlap p q = ltb 0 (p .len) && ltb 0 (q .len) && (holdsPrefix p q || holdsPrefix q p)
+
+-- fe80::/10 and ff00::/8
+abbrev pub linkLocal : Prefix
+linkLocal = record { len = 10; bytes = 0xfe ∷ 0x80 ∷ replicate 14 0 }
+
+abbrev pub multicast : Prefix
+multicast = record { len = 8; bytes = 0xff ∷ replicate 15 0 }
+
+-- no longer length, no bit set past the length, no overlap with fe80::/10 or ff00::/8
+unfoldable pub goodPrefix : Prefix → Bool
+goodPrefix p =
+    leb (p .len) 128
+    && allZero (drop (p .len) (bits (p .bytes)))
+    && not (overlap p linkLocal)
+    && not (overlap p multicast)
