@@ -12,6 +12,7 @@ pub struct Prefix {
 }
 
 const LINK_LOCAL: [u8; 16] = [0xfe, 0x80, 0, 0, 0, 0, 0, 0, 0, 0, 0, 0, 0, 0, 0, 0];
+
 const MULTICAST: [u8; 16] = [0xff, 0, 0, 0, 0, 0, 0, 0, 0, 0, 0, 0, 0, 0, 0, 0];
 
 // An address has 128 bits, so a length above that asks for no more of them.
@@ -68,7 +69,10 @@ fn clear_after(n: usize, a: &[u8]) -> bool
     let zeros = [0u8; 16];
     let last = last_byte(n);
     (bits_after(a[last], n - 8 * last) == 0)
-        & octets::equal(octets::part(a, last + 1, 16), octets::part(&zeros, last + 1, 16))
+        & octets::equal(
+            octets::part(a, last + 1, 16),
+            octets::part(&zeros, last + 1, 16),
+        )
 }
 
 fn begins(p: Prefix, bytes: &[u8]) -> bool

@@ -1,12 +1,10 @@
+-- `area::equal` meets its contract.
 use borrow.Author.Needs.{needs}
 use Rattle.area.specs.Area.{sameArea}
 use Rattle.area.proofs.Laws.Numbers.{eq-bits}
 use Rattle.area.proofs.equal.Statement.{statement}
 use Rattle.area.proofs.equal.Tie as tie
-use Rattle.area.proofs.equal.Reads as reads
-use Rattle.area.proofs.equal.Lts as lts
 
--- src/lib.rt:27:1
 returns : tie.Need-returns
 unfolding sameArea
 returns c = search (eq-bits, c .before .before .before .before .before .before .before .before .before .before .before .before .before .before .before .before .good, needs)

@@ -54,7 +54,7 @@ module _ (k : ℕ) (few : k ≤ 8) where
   -- bits are the same up to bit k of byte w if the bytes before are, and the first k bits of that byte
   same-bits : (w : ℕ) (a b : List ℕ) → Below 256 a → Below 256 b → w < length a → w < length b
       → same (take (8 * w + k) (bits a)) (take (8 * w + k) (bits b))
-          ≡ (same (take w a) (take w b) && eqb (getD a w 0 / 2 ^ (8 - k)) (getD b w 0 / 2 ^ (8 - k)))
+      ≡ (same (take w a) (take w b) && eqb (getD a w 0 / 2 ^ (8 - k)) (getD b w 0 / 2 ^ (8 - k)))
   unfolding bits same
   same-bits w [] b f g l m = absurd (not-suc-le-zero l)
   same-bits w (x ∷ a) [] f g l m = absurd (not-suc-le-zero m)
@@ -83,7 +83,7 @@ module _ (k : ℕ) (few : k ≤ 8) where
 module _ (n w : ℕ) (low : 8 * w ≤ n) (high : n ≤ 8 * w + 8) where
   pub same-first-bits : (a b : List ℕ) → Below 256 a → Below 256 b → w < length a → w < length b
       → same (take n (bits a)) (take n (bits b))
-          ≡ (same (take w a) (take w b) && eqb (getD a w 0 / 2 ^ (8 - (n - 8 * w))) (getD b w 0 / 2 ^ (8 - (n - 8 * w))))
+      ≡ (same (take w a) (take w b) && eqb (getD a w 0 / 2 ^ (8 - (n - 8 * w))) (getD b w 0 / 2 ^ (8 - (n - 8 * w))))
   same-first-bits a b f g l m =
       subst (λ (j : ℕ). same (take j (bits a)) (take j (bits b)) ≡ (same (take w a) (take w b) && eqb (getD a w 0 / 2 ^ (8 - (n - 8 * w))) (getD b w 0 / 2 ^ (8 - (n - 8 * w)))))
       (add-sub-of-le low) (same-bits (n - 8 * w) (omega arith) w a b f g l m)

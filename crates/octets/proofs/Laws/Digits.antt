@@ -9,10 +9,21 @@ use lib.ListN.{length, getD, take, drop, replicate, length-append}
 use lib.Arith.{digits-lt, digits-div, digits-mod, mod-mul}
 use lib.Pow.{pow-add}
 use Rattle.octets.specs.Digits.{digits, number}
+use Rattle.octets.proofs.Laws.Runs.{spread}
 
 -- each number of the run is below b; past its end stands 0
 abbrev pub Below : ℕ → List ℕ → Type 0
 Below b l = (i : ℕ) → getD l i 0 < b
+
+pub below-append : (b : ℕ) (s t : List ℕ) → Below b s → Below b t → Below b (s ++ t)
+below-append b [] t f g i = g i
+below-append b (x ∷ s) t f g zero = f 0
+below-append b (x ∷ s) t f g (suc i) = below-append b s t (λ j. f (suc j)) g i
+
+pub below-spread : (b : ℕ) (l : List ℕ) (k n : ℕ) → 0 < b → Below b l → Below b (spread l k n)
+below-spread b l k zero some f i = some
+below-spread b l k (suc n) some f zero = f k
+below-spread b l k (suc n) some f (suc i) = below-spread b l (suc k) n some f i
 
 module _ (b : ℕ) (some : 0 < b) where
   power : (w : ℕ) → 0 < b ^ w

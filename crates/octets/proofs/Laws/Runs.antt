@@ -1,13 +1,13 @@
 -- Runs of numbers: `same` is equality, and `allZero` says so of each number.
-use Prim.Native.Nat.{ℕ, zero, suc, _-_, _≤_, _<_, min}
+use Prim.Native.Nat.{ℕ, zero, suc, _+_, _-_, _≤_, _<_, min}
 use native.Mathlib.Nat.{sub-zero, zero-sub, suc-sub-suc}
 use native.Mathlib.Omega.{arith}
 use mathlib.Core.Path.{_≡_, refl, sym, _∙_, ap, subst}
 use mathlib.Core.Bool.{Bool, true, false, _&&_, and-eq-true-iff, and-assoc}
 use mathlib.Core.List.{List, [], _∷_, _++_}
 use lib.Dec.{leb}
-use lib.ListN.{length, take, drop, replicate, length-drop, length-replicate, drop-of-length-le}
-use lib.Seq.{take-all}
+use lib.ListN.{length, getD, take, drop, replicate, length-drop, length-replicate, drop-of-length-le}
+use lib.Seq.{take-all, drop-cons}
 use borrow.Author.Tests.{eqb-true, leb-true, leb-false}
 use Rattle.octets.specs.Runs.{same, allZero}
 use Rattle.octets.proofs.Laws.Tests.{clash, eqb-self}
@@ -75,3 +75,13 @@ pub drop-min : (n m : ℕ) (l : List ℕ) → length l ≤ m → drop (min n m) 
 drop-min n m l h =
     at-min (λ (k : ℕ). drop k l) n m
     (λ over. drop-of-length-le l h ∙ sym (drop-of-length-le l (let all : length l ≤ n = omega arith in all)))
+
+-- n elements of a run from place k on, one by one
+abbrev pub spread : List ℕ → ℕ → ℕ → List ℕ
+spread l k zero = []
+spread l k (suc n) = getD l k 0 ∷ spread l (suc k) n
+
+pub part-spread : (l : List ℕ) (k n : ℕ) → k + n ≤ length l → take n (drop k l) ≡ spread l k n
+part-spread l k zero h = refl
+part-spread l k (suc n) h =
+    rw (drop-cons l k 0 (let some : k < length l = omega arith in some), part-spread l (suc k) n (omega arith))

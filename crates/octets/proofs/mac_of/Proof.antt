@@ -1,36 +1,28 @@
+-- `octets::mac_of` meets its contract.
 use native.Mathlib.Nat.{div-one}
 use borrow.Author.Needs.{needs}
 use Rattle.octets.specs.Digits.{digits}
 use Rattle.octets.proofs.mac_of.Statement.{statement}
 use Rattle.octets.proofs.mac_of.Tie as tie
-use Rattle.octets.proofs.mac_of.Reads as reads
-use Rattle.octets.proofs.mac_of.Lts as lts
 
--- src/lib.rt:61:9
 cast-t4 : tie.Need-cast-t4
 cast-t4 c = search needs
 
--- src/lib.rt:62:9
 cast-t7 : tie.Need-cast-t7
 cast-t7 c = search needs
 
--- src/lib.rt:63:9
 cast-t10 : tie.Need-cast-t10
 cast-t10 c = search needs
 
--- src/lib.rt:64:9
 cast-t13 : tie.Need-cast-t13
 cast-t13 c = search needs
 
--- src/lib.rt:65:9
 cast-t16 : tie.Need-cast-t16
 cast-t16 c = search needs
 
--- src/lib.rt:66:9
 cast-t18 : tie.Need-cast-t18
 cast-t18 c = search needs
 
--- src/lib.rt:57:1
 returns : tie.Need-returns
 unfolding digits
 returns c = simp div-one

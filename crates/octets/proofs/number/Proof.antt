@@ -11,8 +11,6 @@ use Rattle.octets.specs.Digits.{bigEndian, number}
 use Rattle.octets.proofs.Laws.Digits.{number-snoc}
 use Rattle.octets.proofs.number.Statement.{statement}
 use Rattle.octets.proofs.number.Tie as tie
-use Rattle.octets.proofs.number.Reads as reads
-use Rattle.octets.proofs.number.Lts as lts
 
 abbrev Inv-loop : tie.InvT-loop
 Inv-loop s n₀ i₀ n i = (i ≤ length s) × (n ≡ bigEndian (take i s)) × (n < 256 ^ i)
@@ -20,48 +18,40 @@ Inv-loop s n₀ i₀ n i = (i ≤ length s) × (n ≡ bigEndian (take i s)) × (
 abbrev μ-loop : tie.MeasureT-loop
 μ-loop s n₀ i₀ n i = length s - i
 
--- src/lib.rt:35:5
 loop-holds : tie.Need-loop-holds Inv-loop μ-loop
 unfolding number
 loop-holds c = (omega arith, refl, lit< tt)
 
--- src/lib.rt:36:13
 mul-n : tie.Need-mul-n Inv-loop μ-loop
 mul-n c = let few = pow-le-pow-right {n = 256} (lit< tt) {i = c .before .loop .i} {j = 7} (omega arith) in omega arith
 
--- src/lib.rt:36:24
 shared-slice-read-n : tie.Need-shared-slice-read-n Inv-loop μ-loop
 shared-slice-read-n c = omega arith
 
--- src/lib.rt:36:24
 cast-n : tie.Need-cast-n Inv-loop μ-loop
 cast-n c = omega (arith, c .shared-slice-known .given (c .before .before .loop .i))
 
--- src/lib.rt:36:13
 add-n : tie.Need-add-n Inv-loop μ-loop
 add-n c =
     let few = pow-le-pow-right {n = 256} (lit< tt) {i = c .before .before .loop .i} {j = 7} (omega arith) in
     omega (arith, c .shared-slice-known .given (c .before .before .loop .i))
 
--- src/lib.rt:37:9
 add-i : tie.Need-add-i Inv-loop μ-loop
 add-i c = omega arith
 
--- src/lib.rt:35:5
 loop-less : tie.Need-loop-less Inv-loop μ-loop
 loop-less c = omega arith
 
--- src/lib.rt:35:5
 loop-again : tie.Need-loop-again Inv-loop μ-loop
 loop-again c =
     let i = c .before .before .loop .i in
     let s = c .before .before .before .args .s .now in
-    let inv = c .before .before .loop .inv in
-    (omega arith,
-    rw (add-one i, take-suc s i 0 (omega arith), number-snoc 256 (lit< tt) (take i s) (getD s i 0), inv .1),
-    rw (add-one i, pow-suc 256 i) (omega (arith, c .shared-slice-known .given i)))
+    let inv = c .before .before .loop .inv in (
+      omega arith,
+      rw (add-one i, take-suc s i 0 (omega arith), number-snoc 256 (lit< tt) (take i s) (getD s i 0), inv .1),
+      rw (add-one i, pow-suc 256 i) (omega (arith, c .shared-slice-known .given i)),
+    )
 
--- src/lib.rt:29:1
 returns : tie.Need-returns Inv-loop μ-loop
 returns c =
     let all : c .before .loop .i ≡ length (c .before .before .args .s .now) = omega arith in

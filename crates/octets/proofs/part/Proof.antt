@@ -1,40 +1,32 @@
+-- `octets::part` meets its contract.
+use Prim.Native.Nat.{_-_}
 use native.Mathlib.Nat.{add-sub-cancel-left}
 use native.Mathlib.Omega.{arith}
-use Prim.Native.Nat.{_-_}
 use mathlib.Core.Path.{_≡_, sym, _∙_}
 use lib.ListN.{length, drop, drop-of-length-le, length-drop}
 use lib.Seq.{take-nil, take-all}
 use borrow.Author.Needs.{needs}
 use Rattle.octets.proofs.part.Statement.{statement}
 use Rattle.octets.proofs.part.Tie as tie
-use Rattle.octets.proofs.part.Reads as reads
-use Rattle.octets.proofs.part.Lts as lts
 
--- src/lib.rt:14:9
 slice-aggregate-result : tie.Need-slice-aggregate-result
 slice-aggregate-result c = search needs
 
--- src/lib.rt:14:9
 returns : tie.Need-returns
 returns c = let a = c .before .before .args in rw (drop-of-length-le (a .s .now) (c .before .if1 .taken), take-nil (a .n))
 
--- src/lib.rt:16:8
 sub-if2 : tie.Need-sub-if2
 sub-if2 c = search needs
 
--- src/lib.rt:17:16
 sub-result : tie.Need-sub-result
 sub-result c = search needs
 
--- src/lib.rt:17:16
 part-result-start : tie.Need-part-result-start
 part-result-start c = search needs
 
--- src/lib.rt:17:16
 part-result-end : tie.Need-part-result-end
 part-result-end c = search needs
 
--- src/lib.rt:17:9
 returns-2 : tie.Need-returns-2
 returns-2 c =
     let a = c .before .before .before .args in
@@ -42,23 +34,18 @@ returns-2 c =
     let left : length rest ≡ length (a .s .now) - a .at = length-drop (a .at) (a .s .now) in
     take-all (length (a .s .now) - a .at) rest (omega arith) ∙ sym (take-all (a .n) rest (omega arith))
 
--- src/lib.rt:19:12
 add-result : tie.Need-add-result
 add-result c = search needs
 
--- src/lib.rt:19:5
 sub-result-2 : tie.Need-sub-result-2
 sub-result-2 c = search needs
 
--- src/lib.rt:19:5
 part-result-start-2 : tie.Need-part-result-start-2
 part-result-start-2 c = search needs
 
--- src/lib.rt:19:5
 part-result-end-2 : tie.Need-part-result-end-2
 part-result-end-2 c = search needs
 
--- src/lib.rt:10:1
 returns-3 : tie.Need-returns-3
 returns-3 c = let a = c .before .before .before .args in rw (add-sub-cancel-left (a .at) (a .n))
 

@@ -36,11 +36,12 @@ unfolding overlap holds agrees
 hold-overlap p q a e f =
     let e′ = simp (holds, and-eq-true-iff) at e in
     let f′ = simp (holds, and-eq-true-iff) at f in
-    simp (overlap, and-eq-true-iff)
-    ((e′ .1 .0, f′ .1 .0),
-    Or·elim (So-prop _) (le-total (p .len) (q .len))
-    (λ h. rw (shorter p q a h (begins p a e) (begins q a f)))
-    (λ h. rw (shorter q p a h (begins q a f) (begins p a e)) (or-true (holdsPrefix p q))))
+    simp (overlap, and-eq-true-iff) (
+      (e′ .1 .0, f′ .1 .0),
+      Or·elim (So-prop _) (le-total (p .len) (q .len))
+          (λ h. rw (shorter p q a h (begins p a e) (begins q a f)))
+          (λ h. rw (shorter q p a h (begins q a f) (begins p a e)) (or-true (holdsPrefix p q))),
+    )
 
 pub overlap-sym : (p q : Prefix) → overlap p q ≡ true → overlap q p ≡ true
 unfolding overlap

@@ -2,27 +2,20 @@
 use native.Mathlib.Omega.{arith}
 use mathlib.Core.Path.{_≡_}
 use lib.ListN.{length}
+use borrow.Author.Needs.{needs}
 use Rattle.octets.specs.Digits.{bits}
 use Rattle.octets.proofs.Laws.Runs.{take-min}
 use Rattle.octets.proofs.Laws.Bits.{length-bits}
 use Rattle.prefix.specs.Prefix.{agrees}
-use borrow.Author.Needs.{needs}
 use Rattle.prefix.proofs.begins.Statement.{statement}
 use Rattle.prefix.proofs.begins.Tie as tie
-use Rattle.prefix.proofs.begins.Reads as reads
-use Rattle.prefix.proofs.begins.Lts as lts
-use Rattle.prefix.proofs.bit_count.Reads as bit-count-reads
-use Rattle.prefix.proofs.same_first_bits.Reads as same-first-bits-reads
 
--- src/lib.rt:78:35
 bit-count-requires : tie.Need-bit-count-requires
 bit-count-requires c κs = search needs
 
--- src/lib.rt:78:19
 same-first-bits-requires : tie.Need-same-first-bits-requires
 same-first-bits-requires c κs = search needs
 
--- src/lib.rt:74:1
 returns : tie.Need-returns
 unfolding agrees
 returns c =

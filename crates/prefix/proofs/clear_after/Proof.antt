@@ -2,63 +2,45 @@
 use Prim.Native.Nat.{_+_}
 use native.Mathlib.Omega.{arith}
 use mathlib.Core.Path.{sym, _∙_}
+use borrow.Author.Needs.{needs}
 use Rattle.octets.proofs.Laws.Runs.{all-zero-end}
 use Rattle.octets.proofs.Laws.Bits.{clear-after-bits}
-use borrow.Author.Needs.{needs}
 use Rattle.prefix.proofs.clear_after.Statement.{statement}
 use Rattle.prefix.proofs.clear_after.Tie as tie
-use Rattle.prefix.proofs.clear_after.Reads as reads
-use Rattle.prefix.proofs.clear_after.Lts as lts
-use Rattle.octets.proofs.equal.Reads as equal-reads
-use Rattle.octets.proofs.part.Reads as part-reads
-use Rattle.prefix.proofs.bits_after.Reads as bits-after-reads
-use Rattle.prefix.proofs.last_byte.Reads as last-byte-reads
 
--- src/lib.rt:69:9
 last-byte-requires : tie.Need-last-byte-requires
 last-byte-requires c κs = search needs
 
--- src/lib.rt:70:17
 shared-slice-read-bits-after : tie.Need-shared-slice-read-bits-after
 shared-slice-read-bits-after c = search needs
 
--- src/lib.rt:70:30
 mul-bits-after : tie.Need-mul-bits-after
 mul-bits-after c = search needs
 
--- src/lib.rt:70:26
 sub-bits-after : tie.Need-sub-bits-after
 sub-bits-after c = search needs
 
--- src/lib.rt:70:6
 bits-after-requires : tie.Need-bits-after-requires
 bits-after-requires c κs = search needs
 
--- src/lib.rt:71:41
 add-part : tie.Need-add-part
 add-part c = search needs
 
--- src/lib.rt:71:25
 part-requires : tie.Need-part-requires
 part-requires c κs = search needs
 
--- src/lib.rt:71:69
 slice-aggregate-part : tie.Need-slice-aggregate-part
 slice-aggregate-part c = search needs
 
--- src/lib.rt:71:77
 add-part-2 : tie.Need-add-part-2
 add-part-2 c = search needs
 
--- src/lib.rt:71:56
 part-requires-2 : tie.Need-part-requires-2
 part-requires-2 c κs = search needs
 
--- src/lib.rt:71:11
 equal-requires : tie.Need-equal-requires
 equal-requires c κs = search needs
 
--- src/lib.rt:64:1
 returns : tie.Need-returns
 returns c =
     let args = c .before .before .before .before .before .before .before .before .args in

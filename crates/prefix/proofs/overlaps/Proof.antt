@@ -1,20 +1,15 @@
-use Rattle.prefix.specs.Prefix.{overlap}
+-- `prefix::overlaps` meets its contract.
 use borrow.Author.Needs.{needs}
+use Rattle.prefix.specs.Prefix.{overlap}
 use Rattle.prefix.proofs.overlaps.Statement.{statement}
 use Rattle.prefix.proofs.overlaps.Tie as tie
-use Rattle.prefix.proofs.overlaps.Reads as reads
-use Rattle.prefix.proofs.overlaps.Lts as lts
-use Rattle.prefix.proofs.holds_prefix.Reads as holds-prefix-reads
 
--- src/lib.rt:110:34
 holds-prefix-requires : tie.Need-holds-prefix-requires
 holds-prefix-requires c κs = search needs
 
--- src/lib.rt:110:55
 holds-prefix-requires-2 : tie.Need-holds-prefix-requires-2
 holds-prefix-requires-2 c κs = search needs
 
--- src/lib.rt:107:1
 returns : tie.Need-returns
 unfolding overlap
 returns c = rw (c .before .holds-prefix .ensures, c .holds-prefix2 .ensures)

@@ -1,0 +1,2 @@
+-- The statement and its proof.
+pub mod Rows

@@ -1,0 +1,32 @@
+-- Document 01's cases at the edges that are marked *: one test computes every row, and one law turns it into the statement.
+use Prim.Native.Nat.{ℕ}
+use mathlib.Core.Path.{_≡_, refl}
+use mathlib.Core.Bool.{Bool, true, false, _&&_}
+use mathlib.Core.List.{List, [], _∷_}
+use lib.Dec.{T}
+use Rattle.octets.specs.Digits.{digits, number}
+use Rattle.octets.specs.Runs.{same}
+use Rattle.octets.proofs.Laws.Runs.{same-true}
+use Rattle.area.specs.Area.{goodArea}
+use Rattle.ipv6.specs.Address.{multicast, loopback, unspecified}
+use Rattle.ipv6.specs.Packet.{malformed, forbidden, packetRules}
+use Rattle.ipv6.specs.Identifier.{flipped, identifier, linkLocal, fromMac, midOfIdentifier, midOf}
+use Rattle.edge_rows.specs.Rows.{Row, Hold, rows, Edges}
+
+-- the test of every row, computed
+test : List Row → Bool
+test [] = true
+test (r ∷ rs) = same (r .got) (r .want) && test rs
+
+by-test : (rs : List Row) → T (test rs) → Hold rs
+unfolding test
+by-test [] h = tt
+by-test (r ∷ rs) h = step (same (r .got) (r .want)) refl (by-test rs) h
+  where
+    step : (t : Bool) → same (r .got) (r .want) ≡ t → (T (test rs) → Hold rs) → T (t && test rs) → Hold (r ∷ rs)
+    step true e f h = (same-true (r .got) (r .want) e, f h)
+    step false e f h = absurd h
+
+pub edges : Edges
+unfolding Edges rows test same digits number goodArea multicast loopback unspecified malformed forbidden packetRules flipped identifier linkLocal fromMac midOfIdentifier midOf
+edges = by-test rows tt

@@ -1,0 +1,74 @@
+-- Document 01, Cases at the edges: those marked * as rows of one list, under the single statement `Edges`.
+use Prim.Native.Nat.{ℕ, _-_}
+use mathlib.Core.Path.{_≡_}
+use mathlib.Core.Bool.{Bool, true, false}
+use mathlib.Core.List.{List, [], _∷_, _++_}
+use lib.IntN.{pos}
+use lib.ListN.{take, replicate}
+use Rattle.octets.specs.Digits.{digits}
+use Rattle.replies.specs.Rules.{refusal}
+use Rattle.area.specs.declared.Area.{Area}
+use Rattle.area.specs.Area.{goodArea}
+use Rattle.ipv6.specs.declared.PerhapsMid.{PerhapsMid}
+use Rattle.ipv6.specs.declared.PerhapsMid.the-variants.{Mid, Nothing}
+use Rattle.ipv6.specs.Packet.{packetRules}
+use Rattle.ipv6.specs.Identifier.{linkLocal, midOf}
+
+pub record Row : Type 0 where
+  pub got : List ℕ
+  pub want : List ℕ
+
+infix 18 _are_
+infix 18 _is_
+abbrev pub _are_ : List ℕ → List ℕ → Row
+xs are ys = record { got = xs; want = ys }
+
+abbrev pub _is_ : ℕ → ℕ → Row
+x is y = (x ∷ []) are (y ∷ [])
+
+-- each row holds
+abbrev pub Hold : List Row → Type 0
+Hold [] = Unit {0}
+Hold (r ∷ rs) = (r .got ≡ r .want) × Hold rs
+
+-- what a row says of a test: 1 where it holds
+abbrev pub says : Bool → ℕ
+says true = 1
+says false = 0
+
+abbrev pub midOrZero : PerhapsMid → ℕ
+midOrZero (Mid m) = m
+midOrZero Nothing = 0
+
+-- an area at 0, 0 with a = 1
+abbrev pub shaped : ℕ → ℕ → ℕ → Area
+shaped shape b angle = record { shape = shape; latitude = pos 0; longitude = pos 0; a = 1; b = b; angle = angle }
+
+-- a packet of n bytes from fe80::1 to ff02::1: of its header as much as there is room for
+abbrev pub packet : ℕ → List ℕ
+packet n =
+    take n
+    (0x60 ∷ 0 ∷ 0 ∷ 0 ∷ digits 256 2 (n - 40)
+    ++ 59 ∷ 64 ∷ 0xfe ∷ 0x80 ∷ replicate 13 0
+    ++ 1 ∷ 0xff ∷ 2 ∷ replicate 13 0
+    ++ 1 ∷ replicate (n - 40) 0)
+
+unfoldable pub rows : List Row
+rows =
+    -- own MID 02:00:00:00:00:01 gives fe80::ff:fe00:1, and back
+    (linkLocal 0x020000000001 are (0xfe ∷ 0x80 ∷ replicate 9 0 ++ 0xff ∷ 0xfe ∷ 0 ∷ 0 ∷ 1 ∷ []))
+    ∷ (midOrZero (midOf (linkLocal 0x020000000001)) is 0x020000000001)
+    -- angle 359 good, 360 not; ellipse with b = 0 not, circle with b = 0 good
+    ∷ (says (goodArea (shaped 1 1 359)) is 1)
+    ∷ (says (goodArea (shaped 1 1 360)) is 0)
+    ∷ (says (goodArea (shaped 2 0 0)) is 0)
+    ∷ (says (goodArea (shaped 0 0 0)) is 1)
+    -- a packet of 39, 40, 1,280 and 1,281 bytes: 8, good, good, 9
+    ∷ (refusal (packetRules (packet 39)) is 8)
+    ∷ (refusal (packetRules (packet 40)) is 0)
+    ∷ (refusal (packetRules (packet 1280)) is 0)
+    ∷ (refusal (packetRules (packet 1281)) is 9)
+    ∷ []
+
+unfoldable pub Edges : Type 0
+Edges = Hold rows

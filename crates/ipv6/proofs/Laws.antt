@@ -1,0 +1,2 @@
+-- The laws of IPv6 that the other crates cite.
+pub mod Identifier

@@ -1,0 +1,19 @@
+-- RFC 4291: the addresses that document 01 names, each of 16 bytes.
+use Prim.Native.Nat.{ℕ}
+use mathlib.Core.Bool.{Bool}
+use mathlib.Core.List.{List, [], _∷_, _++_}
+use lib.Dec.{eqb}
+use lib.ListN.{getD, replicate}
+use Rattle.octets.specs.Runs.{same}
+
+-- first byte FF
+unfoldable pub multicast : List ℕ → Bool
+multicast a = eqb (getD a 0 0) 0xff
+
+-- ::1
+unfoldable pub loopback : List ℕ → Bool
+loopback a = same a (replicate 15 0 ++ 1 ∷ [])
+
+-- ::
+unfoldable pub unspecified : List ℕ → Bool
+unspecified a = same a (replicate 16 0)

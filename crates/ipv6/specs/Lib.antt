@@ -1,0 +1,3 @@
+pub mod Address
+pub mod Packet
+pub mod Identifier

@@ -1,0 +1,150 @@
+// IPv6 as far as document 01 needs it: is a packet good, where are its addresses, and what they say of a MID.
+ghost use mathlib.Core.Path.{_≡_};
+ghost use Prim.Native.Nat.{_≤_};
+ghost use lib.ListN.{length};
+ghost use Rattle.replies.specs.Rules.{refusal};
+ghost use Rattle.ipv6.specs.Address.{multicast, loopback, unspecified};
+ghost use Rattle.ipv6.specs.Packet.{source, destination, malformed, forbidden, packetRules};
+ghost use Rattle.ipv6.specs.Identifier.{flipped, identifier, linkLocal, midOf};
+
+// A MID, where there is one to be had.
+pub enum PerhapsMid {
+    Mid(u64),
+    Nothing,
+}
+
+const LOOPBACK: [u8; 16] = [0, 0, 0, 0, 0, 0, 0, 0, 0, 0, 0, 0, 0, 0, 0, 1];
+
+const UNSPECIFIED: [u8; 16] = [0, 0, 0, 0, 0, 0, 0, 0, 0, 0, 0, 0, 0, 0, 0, 0];
+
+pub fn is_multicast(address: &[u8]) -> bool
+    ensures { λ r. ⌜ r ≡ multicast (now (address .entry)) ⌝ }
+{
+    if address.len() == 0 {
+        return false;
+    }
+    address[0] == 0xff
+}
+
+pub fn is_loopback(address: &[u8]) -> bool
+    ensures { λ r. ⌜ r ≡ loopback (now (address .entry)) ⌝ }
+{
+    let one = LOOPBACK;
+    octets::equal(address, &one)
+}
+
+pub fn is_unspecified(address: &[u8]) -> bool
+    ensures { λ r. ⌜ r ≡ unspecified (now (address .entry)) ⌝ }
+{
+    let zeros = UNSPECIFIED;
+    octets::equal(address, &zeros)
+}
+
+pub fn source_of(packet: &[u8]) -> &[u8]
+    ensures { λ r. ⌜ now r ≡ source (now (packet .entry)) ⌝ }
+{
+    octets::part(packet, 8, 16)
+}
+
+pub fn destination_of(packet: &[u8]) -> &[u8]
+    ensures { λ r. ⌜ now r ≡ destination (now (packet .entry)) ⌝ }
+{
+    octets::part(packet, 24, 16)
+}
+
+fn is_malformed(packet: &[u8]) -> bool
+    ensures { λ r. ⌜ r ≡ malformed (now (packet .entry)) ⌝ }
+{
+    if packet.len() < 40 {
+        return true;
+    }
+    let payload = octets::number16(packet, 4) as usize;
+    (packet[0] / 16 != 6) | (payload + 40 != packet.len())
+}
+
+fn is_forbidden(packet: &[u8]) -> bool
+    ensures { λ r. ⌜ r ≡ forbidden (now (packet .entry)) ⌝ }
+{
+    let from = source_of(packet);
+    let to = destination_of(packet);
+    is_multicast(from) | is_loopback(from) | is_unspecified(to) | is_loopback(to)
+}
+
+// The number that refuses a packet, in the order 9, 8, 10; 0 for a good one.
+pub fn refusal_of(packet: &[u8]) -> u8
+    ensures { λ r. ⌜ r ≡ refusal (packetRules (now (packet .entry))) ⌝ }
+{
+    if 1280 < packet.len() {
+        return replies::PACKET_TOO_LONG;
+    }
+    if is_malformed(packet) {
+        return replies::PACKET_MALFORMED;
+    }
+    if is_forbidden(packet) {
+        return replies::ADDRESS_NOT_ALLOWED;
+    }
+    replies::DONE
+}
+
+fn flip(b: u8) -> u8
+    ensures { λ r. ⌜ r ≡ flipped b ⌝ }
+{
+    if b / 2 % 2 == 0 {
+        return b + 2;
+    }
+    b - 2
+}
+
+// The interface identifier of a MID.
+pub fn identifier_of(mid: u64) -> [u8; 8]
+    ensures { λ r. ⌜ r ≡ identifier mid ⌝ }
+{
+    let m = octets::mac_of(mid);
+    [flip(m[0]), m[1], m[2], 0xff, 0xfe, m[3], m[4], m[5]]
+}
+
+// The address of a MID within fe80::/64.
+pub fn link_local_of(mid: u64) -> [u8; 16]
+    ensures { λ r. ⌜ r ≡ linkLocal mid ⌝ }
+{
+    let i = identifier_of(mid);
+    [
+        0xfe,
+        0x80,
+        0,
+        0,
+        0,
+        0,
+        0,
+        0,
+        i[0],
+        i[1],
+        i[2],
+        i[3],
+        i[4],
+        i[5],
+        i[6],
+        i[7],
+    ]
+}
+
+// The MID from which an address was built, if it was.
+pub fn mid_of(address: &[u8]) -> PerhapsMid
+    ensures { λ r. ⌜ r ≡ midOf (now (address .entry)) ⌝ }
+{
+    if address.len() != 16 {
+        return PerhapsMid::Nothing;
+    }
+    if !((address[11] == 0xff) & (address[12] == 0xfe)) {
+        return PerhapsMid::Nothing;
+    }
+    let mac = [
+        flip(address[8]),
+        address[9],
+        address[10],
+        address[13],
+        address[14],
+        address[15],
+    ];
+    PerhapsMid::Mid(octets::mid(&mac, 0))
+}
