@@ -1,6 +1,8 @@
 -- Document 01, Replies: refusals are conditions with their numbers, in order, and the first that holds is given.
 use Prim.Native.Nat.{ℕ}
-use mathlib.Core.Bool.{Bool, cond}
+use mathlib.Core.Path.{_≡_}
+use mathlib.Core.Logic.{_⊎_}
+use mathlib.Core.Bool.{Bool, true, false, cond}
 use mathlib.Core.List.{List, [], _∷_}
 
 infix 22 _if_
@@ -19,3 +21,13 @@ r then rs = r ∷ rs
 abbrev pub refusal : List Rule → ℕ
 refusal [] = 0
 refusal (r ∷ rs) = cond (r .holds) (r .number) (refusal rs)
+
+-- the rule with number n holds, and none before it
+abbrev pub First : ℕ → List Rule → Type 0
+First n [] = ⊥
+First n (r ∷ rs) = ((r .holds ≡ true) × (r .number ≡ n)) ⊎ ((r .holds ≡ false) × First n rs)
+
+-- no rule holds
+abbrev pub None : List Rule → Type 0
+None [] = Unit {0}
+None (r ∷ rs) = (r .holds ≡ false) × None rs

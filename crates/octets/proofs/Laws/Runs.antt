@@ -4,9 +4,9 @@ use native.Mathlib.Nat.{sub-zero, zero-sub, suc-sub-suc}
 use native.Mathlib.Omega.{arith}
 use mathlib.Core.Path.{_≡_, refl, sym, _∙_, ap, subst}
 use mathlib.Core.Bool.{Bool, true, false, _&&_, and-eq-true-iff, and-assoc}
-use mathlib.Core.List.{List, [], _∷_, _++_}
+use mathlib.Core.List.{List, [], _∷_, _++_, map}
 use lib.Dec.{leb}
-use lib.ListN.{length, getD, take, drop, replicate, length-drop, length-replicate, drop-of-length-le}
+use lib.ListN.{length, getD, take, drop, replicate, length-drop, length-replicate, length-map, drop-of-length-le}
 use lib.Seq.{take-all, drop-cons}
 use borrow.Author.Tests.{eqb-true, leb-true, leb-false}
 use Rattle.octets.specs.Runs.{same, allZero}
@@ -85,3 +85,7 @@ pub part-spread : (l : List ℕ) (k n : ℕ) → k + n ≤ length l → take n (
 part-spread l k zero h = refl
 part-spread l k (suc n) h =
     rw (drop-cons l k 0 (let some : k < length l = omega arith in some), part-spread l (suc k) n (omega arith))
+
+-- what owning an array of structs tells of its list
+pub length-mapped : (X Y : Type 0) (f : X → Y) (l : List X) (n : ℕ) → length (map f l) ≡ n → length l ≡ n
+length-mapped X Y f l n e = sym (length-map l f) ∙ e

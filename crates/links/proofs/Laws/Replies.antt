@@ -1,0 +1,45 @@
+-- What a call answers, by the number that its rules give.
+use Prim.Native.Nat.{ℕ, zero, suc, _<_}
+use native.Mathlib.Omega.{arith}
+use mathlib.Core.Path.{_≡_, refl, ap}
+use mathlib.Core.List.{List, _++_}
+use lib.Dec.{lit<}
+use Rattle.replies.specs.Rules.{refusal, None}
+use Rattle.replies.proofs.Laws.Refusals.{Numbered, done-exactly, refusal-more, refusal-next}
+use Rattle.links.specs.declared.PerhapsLink.the-variants.{Nothing}
+use Rattle.links.specs.declared.Reply.{Reply}
+use Rattle.links.specs.declared.Settings.{Settings}
+use Rattle.links.specs.declared.Slot.{Slot}
+use Rattle.links.specs.declared.Table.{Table}
+use Rattle.links.specs.Settings.{settingsRules}
+use Rattle.links.specs.Slots.{counted}
+use Rattle.links.specs.Calls.{Call, enable, disable, setArea, setOwn, slotRules, rules, linkAfter, tableAfter, answer, reply}
+
+pub refused : (t : Table) (c : Call) (n : ℕ) → 0 < n → refusal (rules (counted t) c) ≡ n → reply t c ≡ record { number = n; link = Nothing; table = t }
+unfolding reply
+refused t c zero h e = absurd (omega arith)
+refused t c (suc n) h e = ap (λ (m : ℕ). answer m t c) e
+
+pub done : (t : Table) (c : Call) → refusal (rules (counted t) c) ≡ 0 → reply t c ≡ record { number = 0; link = linkAfter (counted t) c; table = tableAfter t c }
+unfolding reply
+done t c e = ap (λ (m : ℕ). answer m t c) e
+
+pub settings-numbered : (s : Settings) → Numbered (settingsRules s)
+unfolding settingsRules
+settings-numbered s = (lit< tt, (lit< tt, (lit< tt, tt)))
+
+pub numbered : (l : List Slot) (c : Call) → Numbered (rules l c)
+unfolding rules settingsRules slotRules
+numbered l (enable s) = (lit< tt, (lit< tt, (lit< tt, (lit< tt, (lit< tt, (lit< tt, tt))))))
+numbered l (disable i) = (lit< tt, (lit< tt, tt))
+numbered l (setArea a) = (lit< tt, tt)
+numbered l (setOwn m) = (lit< tt, tt)
+
+-- an enable: first the settings decide, then the enabled links
+pub by-settings : (l : List Slot) (s : Settings) (n : ℕ) → 0 < n → refusal (settingsRules s) ≡ n → refusal (rules l (enable s)) ≡ n
+unfolding rules
+by-settings l s n h e = refusal-more (settingsRules s) (slotRules l s) n h e
+
+pub by-slots : (l : List Slot) (s : Settings) → refusal (settingsRules s) ≡ 0 → refusal (rules l (enable s)) ≡ refusal (slotRules l s)
+unfolding rules
+by-slots l s e = refusal-next (settingsRules s) (slotRules l s) (done-exactly (settingsRules s) (settings-numbered s) .0 e)

@@ -1,0 +1,60 @@
+-- The search over slots: what `any` and `place` say of a run, and the law of every loop that looks for a slot.
+use Prim.Native.Nat.{ℕ, zero, suc, _+_, _-_, _≤_, _<_}
+use native.Mathlib.Numerals.{add-one}
+use native.Mathlib.Nat.{zero-add}
+use native.Mathlib.Omega.{arith}
+use mathlib.Core.Path.{_≡_, refl, sym, _∙_, ap}
+use mathlib.Core.Bool.{Bool, true, false, cond, not, _&&_, _||_}
+use mathlib.Core.List.{List, [], _∷_}
+use lib.Dec.{ltb, leb·suc-suc}
+use lib.ListN.{length, getD, drop, drop-of-length-le}
+use lib.Seq.{drop-cons}
+use borrow.Author.Tests.{lt-ltb, le-ltb}
+use Rattle.octets.proofs.Laws.Tests.{clash}
+use Rattle.links.specs.declared.Slot.{Slot}
+use Rattle.links.specs.Slots.{any, place}
+
+pub place-within : (q : Slot → Bool) (l : List Slot) → place q l ≤ length l
+unfolding place
+place-within q [] = omega arith
+place-within q (x ∷ l) = go (q x) (place-within q l)
+  where
+    go : (t : Bool) → place q l ≤ length l → cond t zero (suc (place q l)) ≤ suc (length l)
+    go true h = omega arith
+    go false h = omega arith
+
+-- there is one exactly if its place is one of the run
+pub any-place : (q : Slot → Bool) (l : List Slot) → any q l ≡ ltb (place q l) (length l)
+unfolding any place
+any-place q [] = refl
+any-place q (x ∷ l) = go (q x) (any-place q l)
+  where
+    go : (t : Bool) → any q l ≡ ltb (place q l) (length l) → (t || any q l) ≡ ltb (cond t zero (suc (place q l))) (suc (length l))
+    go true e = sym (lt-ltb 0 (suc (length l)) (omega arith))
+    go false e = e ∙ sym (leb·suc-suc (suc (place q l)) (length l))
+
+-- A loop that goes through the run: none of the first i slots passes.
+pub record Looking (q : Slot → Bool) (l : List Slot) (n i : ℕ) : Type 0 where
+  pub count : n ≡ length l
+  pub at : i ≤ n
+  pub rest : place q l ≡ i + place q (drop i l)
+
+pub start : (q : Slot → Bool) (l : List Slot) {n : ℕ} → n ≡ length l → Looking q l n 0
+start q l e = record { count = e; at = omega arith; rest = sym (zero-add (place q l)) }
+
+module _ (q : Slot → Bool) (l : List Slot) {n i : ℕ} (k : Looking q l n i) (d : Slot) where
+  turn : i < n → (t : Bool) → q (getD l i d) ≡ t → place q l ≡ i + cond t zero (suc (place q (drop (suc i) l)))
+  unfolding place
+  turn h t e = k .rest ∙ ap (λ (j : ℕ). i + j) (rw (drop-cons l i d (let some : i < length l = omega arith in some), e))
+
+  pub hit : i < n → q (getD l i d) ≡ true → i ≡ place q l
+  hit h e = omega (arith, turn h true e)
+
+  pub pass : i < n → q (getD l i d) ≡ false → Looking q l n (i + 1)
+  pass h e = record { count = k .count; at = omega arith; rest = turn h false e ∙ rw (add-one i) (omega arith) }
+
+  pub end : n ≤ i → i ≡ place q l
+  unfolding place
+  end h =
+      let past : place q (drop i l) ≡ zero = rw (drop-of-length-le l (let all : length l ≤ i = omega arith in all)) in
+      omega (arith, k .rest)

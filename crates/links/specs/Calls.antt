@@ -1,0 +1,137 @@
+-- The calls that alter the table: their refusals in document 01's order, and what they do where they are not refused.
+use Prim.Native.Nat.{ℕ, zero, suc, _+_, _-_}
+use mathlib.Core.Bool.{Bool, true, not, _&&_}
+use mathlib.Core.List.{List, [], _∷_, _++_}
+use lib.Dec.{leb, ltb}
+use lib.ListN.{set, replicate}
+use Rattle.replies.specs.Rules.{Rule, _if_, _then_, refusal}
+use Rattle.area.specs.Area.{goodArea}
+use Rattle.links.specs.declared.DynamicArea.{DynamicArea}
+use Rattle.links.specs.declared.DynamicArea.the-variants.{Set, Unset}
+use Rattle.links.specs.declared.FixedSettings.{FixedSettings}
+use Rattle.links.specs.declared.PerhapsLink.{PerhapsLink}
+use Rattle.links.specs.declared.PerhapsLink.the-variants.{Link, Nothing}
+use Rattle.links.specs.declared.Reply.{Reply}
+use Rattle.links.specs.declared.Settings.{Settings}
+use Rattle.links.specs.declared.Slot.{Slot}
+use Rattle.links.specs.declared.Table.{Table}
+use Rattle.links.specs.Settings.{midOk, interfaceOk, settingsRules, sameGround, overlaps}
+use Rattle.links.specs.Slots.{free, inUse, counted, slotAt, any, place, unused, with}
+
+pub data Call : Type 0 where
+  enable : Settings → Call
+  disable : ℕ → Call
+  setArea : DynamicArea → Call
+  setOwn : ℕ → Call
+
+abbrev pub goodDynamic : DynamicArea → Bool
+goodDynamic (Set a) = goodArea a
+goodDynamic Unset = true
+
+-- the refusals of an enable that the enabled links decide
+unfoldable pub slotRules : List Slot → Settings → List Rule
+slotRules l s =
+    4 if any (with (λ r. sameGround r s)) l
+    then 5 if any (with (λ r. overlaps r s)) l
+    then 6 if not (any unused l)
+    then []
+
+-- the refusals of each call, in order; of the table they see the slots that count
+unfoldable pub rules : List Slot → Call → List Rule
+rules l (enable s) = settingsRules s ++ slotRules l s
+rules l (disable i) =
+    15 if ltb i 2
+    then 7 if not (slotAt l i .enabled)
+    then []
+rules l (setArea a) = 2 if not (goodDynamic a) then []
+rules l (setOwn m) = 1 if not (midOk m) then []
+
+-- the table with another slot k, area or own MID, and nothing else changed
+abbrev pub withSlot : Table → ℕ → Slot → Table
+withSlot t k x = record {
+  own = t .own;
+  max = t .max;
+  tvl = t .tvl;
+  dgvl = t .dgvl;
+  area = t .area;
+  slots = set (t .slots) k x;
+}
+
+abbrev pub withArea : Table → DynamicArea → Table
+withArea t a = record {
+  own = t .own;
+  max = t .max;
+  tvl = t .tvl;
+  dgvl = t .dgvl;
+  area = a;
+  slots = t .slots;
+}
+
+abbrev pub withOwn : Table → ℕ → Table
+withOwn t m = record {
+  own = m;
+  max = t .max;
+  tvl = t .tvl;
+  dgvl = t .dgvl;
+  area = t .area;
+  slots = t .slots;
+}
+
+abbrev pub linkOf : ℕ → PerhapsLink
+linkOf k = Link (record { 0 = k + 2 })
+
+-- an enable takes the lowest unused index; of the others none gives a link
+unfoldable pub linkAfter : List Slot → Call → PerhapsLink
+linkAfter l (enable s) = linkOf (place unused l)
+linkAfter l (disable i) = Nothing
+linkAfter l (setArea a) = Nothing
+linkAfter l (setOwn m) = Nothing
+
+unfoldable pub tableAfter : Table → Call → Table
+tableAfter t (enable s) = withSlot t (place unused (counted t)) (inUse s)
+tableAfter t (disable i) = withSlot t (i - 2) free
+tableAfter t (setArea a) = withArea t a
+tableAfter t (setOwn m) = withOwn t m
+
+-- a refusal returns its number, no link, and changes nothing
+abbrev pub answer : ℕ → Table → Call → Reply
+answer zero t c = record { number = 0; link = linkAfter (counted t) c; table = tableAfter t c }
+answer (suc n) t c = record { number = suc n; link = Nothing; table = t }
+
+unfoldable pub reply : Table → Call → Reply
+reply t c = answer (refusal (rules (counted t) c)) t c
+
+-- start: the least maximum is 2, and `most` the largest (65 for a table by value)
+unfoldable pub startRules : ℕ → ℕ → ℕ → FixedSettings → FixedSettings → List Rule
+startRules most own max tvl dgvl =
+    1 if not (midOk own && leb 2 max && leb max most && interfaceOk (tvl .kind) (tvl .flag) && interfaceOk (dgvl .kind) (dgvl .flag))
+    then []
+
+-- the first n slots of a memory are cleared, or as many as it has
+unfoldable pub cleared : ℕ → List Slot → List Slot
+cleared zero l = l
+cleared (suc n) [] = []
+cleared (suc n) (x ∷ l) = free ∷ cleared n l
+
+-- the fresh table in some memory: the slots that count are cleared
+unfoldable pub fresh : List Slot → ℕ → ℕ → FixedSettings → FixedSettings → Table
+fresh memory own max tvl dgvl = record {
+  own = own;
+  max = max;
+  tvl = tvl;
+  dgvl = dgvl;
+  area = Unset;
+  slots = cleared (max - 1) memory;
+}
+
+abbrev pub plain : FixedSettings
+plain = record { kind = 1; flag = 1 }
+
+-- a refused start returns its number and the table for own MID 0, maximum 2, fixed links of kind 1 and flag 1
+abbrev pub begin : ℕ → List Slot → ℕ → ℕ → FixedSettings → FixedSettings → Reply
+begin zero memory own max tvl dgvl = record { number = 0; link = Nothing; table = fresh memory own max tvl dgvl }
+begin (suc n) memory own max tvl dgvl = record { number = suc n; link = Nothing; table = fresh memory 0 2 plain plain }
+
+-- start by value: 64 blank slots
+unfoldable pub start : ℕ → ℕ → FixedSettings → FixedSettings → Reply
+start own max tvl dgvl = begin (refusal (startRules 65 own max tvl dgvl)) (replicate 64 free) own max tvl dgvl

@@ -1,0 +1,43 @@
+-- Document 01, Virtual links: settings, which are good, and what two stop links have to do with each other.
+use Prim.Native.Nat.{ℕ, _^_}
+use mathlib.Core.Path.{_≡_}
+use mathlib.Core.Bool.{Bool, true, not, _&&_}
+use mathlib.Core.List.{List, []}
+use lib.Dec.{leb, ltb}
+use Rattle.replies.specs.Rules.{Rule, _if_, _then_}
+use Rattle.area.specs.Area.{goodArea, sameArea}
+use Rattle.prefix.specs.Prefix.{holds, overlap, goodPrefix}
+use Rattle.links.specs.declared.Settings.{Settings}
+
+-- MID: 48 bits
+unfoldable pub midOk : ℕ → Bool
+midOk m = ltb m (2 ^ 48)
+
+-- kinds: 1 Ethernet LAN, 2 NBMA, 3 point-to-point; flag: 0 or 1
+unfoldable pub interfaceOk : ℕ → ℕ → Bool
+interfaceOk kind flag = leb 1 kind && leb kind 3 && leb flag 1
+
+-- the refusals of an enable that the settings alone decide
+unfoldable pub settingsRules : Settings → List Rule
+settingsRules s =
+    1 if not (interfaceOk (s .kind) (s .flag))
+    then 2 if not (goodArea (s .area))
+    then 3 if not (goodPrefix (s .prefix))
+    then []
+
+unfoldable pub sameGround : Settings → Settings → Bool
+sameGround r s = sameArea (r .area) (s .area)
+
+unfoldable pub overlaps : Settings → Settings → Bool
+overlaps r s = overlap (r .prefix) (s .prefix)
+
+-- the link's prefix holds the address
+unfoldable pub reaches : Settings → List ℕ → Bool
+reaches s address = holds (s .prefix) address
+
+-- equal settings
+pub record Same (r s : Settings) : Type 0 where
+  pub area : sameArea (r .area) (s .area) ≡ true
+  pub prefix : r .prefix ≡ s .prefix
+  pub kind : r .kind ≡ s .kind
+  pub flag : r .flag ≡ s .flag

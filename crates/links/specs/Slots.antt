@@ -1,0 +1,55 @@
+-- The run of slots: slot k is the record of index k + 2, and only the first maximum - 1 count.
+use Prim.Native.Nat.{ℕ, zero, suc, _-_}
+use mathlib.Core.Path.{_≡_}
+use mathlib.Core.Bool.{Bool, true, false, cond, not, _&&_, _||_}
+use mathlib.Core.List.{List, [], _∷_}
+use lib.Dec.{ltb}
+use lib.IntN.{pos}
+use lib.ListN.{take, getD, replicate}
+use Rattle.links.specs.declared.Settings.{Settings}
+use Rattle.links.specs.declared.Slot.{Slot}
+use Rattle.links.specs.declared.Table.{Table}
+
+abbrev pub blank : Settings
+blank = record {
+  area = record { shape = 0; latitude = pos 0; longitude = pos 0; a = 0; b = 0; angle = 0 };
+  prefix = record { len = 0; bytes = replicate 16 0 };
+  kind = 0;
+  flag = 0;
+}
+
+-- a disabled slot is blank
+abbrev pub free : Slot
+free = record { enabled = false; settings = blank }
+
+abbrev pub inUse : Settings → Slot
+inUse s = record { enabled = true; settings = s }
+
+-- the slots of index 2 to the maximum
+abbrev pub counted : Table → List Slot
+counted t = take (t .max - 1) (t .slots)
+
+-- the slot of an index; a fixed link and an index that does not count have none
+abbrev pub slotAt : List Slot → ℕ → Slot
+slotAt l i = cond (ltb i 2) free (getD l (i - 2) free)
+
+-- is there a slot that passes the test?
+unfoldable pub any : (Slot → Bool) → List Slot → Bool
+any q [] = false
+any q (x ∷ l) = q x || any q l
+
+-- the place of the first slot that passes the test; the length where there is none
+unfoldable pub place : (Slot → Bool) → List Slot → ℕ
+place q [] = zero
+place q (x ∷ l) = cond (q x) zero (suc (place q l))
+
+-- tests of a slot: it is unused; it is enabled and its settings pass
+abbrev pub unused : Slot → Bool
+unused x = not (x .enabled)
+
+abbrev pub with : (Settings → Bool) → Slot → Bool
+with q x = x .enabled && q (x .settings)
+
+-- slot k is enabled with these settings
+abbrev pub Has : List Slot → ℕ → Settings → Type 0
+Has l k s = getD l k free ≡ inUse s

@@ -1,0 +1,2 @@
+-- The laws of refusals that the other crates cite.
+pub mod Refusals

@@ -1,0 +1,67 @@
+-- Which number a list of refusals gives: exactly that of the first rule that holds.
+use Prim.Native.Nat.{ℕ, _<_}
+use native.Mathlib.Omega.{arith}
+use mathlib.Core.Path.{_≡_, refl, sym}
+use mathlib.Core.Logic.{_⊎_, inl, inr, _↔_}
+use mathlib.Core.Bool.{Bool, true, false, cond}
+use mathlib.Core.List.{List, [], _∷_, _++_}
+use Rattle.replies.specs.Rules.{Rule, refusal, First, None}
+
+-- no rule has the number 0, which means done
+abbrev pub Numbered : List Rule → Type 0
+Numbered [] = Unit {0}
+Numbered (r ∷ rs) = (0 < r .number) × Numbered rs
+
+-- a number is given exactly when its rule holds and none before it
+pub given-exactly : (rs : List Rule) (n : ℕ) → 0 < n → (refusal rs ≡ n) ↔ First n rs
+given-exactly rs n h = (there rs, back rs)
+  where
+    there : (rs : List Rule) → refusal rs ≡ n → First n rs
+    there [] e = absurd (omega arith)
+    there (r ∷ rs) e = go (r .holds) refl e (there rs)
+      where
+        go : (t : Bool) → r .holds ≡ t → cond t (r .number) (refusal rs) ≡ n → (refusal rs ≡ n → First n rs) → First n (r ∷ rs)
+        go true p e f = inl (p, e)
+        go false p e f = inr (p, f e)
+    back : (rs : List Rule) → First n rs → refusal rs ≡ n
+    back [] f = absurd f
+    back (r ∷ rs) (inl p) = rw (p .0) (p .1)
+    back (r ∷ rs) (inr p) = rw (p .0) (back rs (p .1))
+
+-- a call is done exactly when no rule holds
+pub done-exactly : (rs : List Rule) → Numbered rs → (refusal rs ≡ 0) ↔ None rs
+done-exactly rs k = (there rs k, back rs)
+  where
+    there : (rs : List Rule) → Numbered rs → refusal rs ≡ 0 → None rs
+    there [] k e = tt
+    there (r ∷ rs) k e = go (r .holds) refl e (there rs (k .1))
+      where
+        go : (t : Bool) → r .holds ≡ t → cond t (r .number) (refusal rs) ≡ 0 → (refusal rs ≡ 0 → None rs) → None (r ∷ rs)
+        go true p e f = absurd (omega (arith, k .0))
+        go false p e f = (p, f e)
+    back : (rs : List Rule) → None rs → refusal rs ≡ 0
+    back [] h = refl
+    back (r ∷ rs) h = rw (h .0) (back rs (h .1))
+
+-- a list that refuses goes on refusing so, whatever follows it
+pub refusal-more : (rs more : List Rule) (n : ℕ) → 0 < n → refusal rs ≡ n → refusal (rs ++ more) ≡ n
+refusal-more rs more n h e = given-exactly (rs ++ more) n h .1 (longer rs (given-exactly rs n h .0 e))
+  where
+    longer : (rs : List Rule) → First n rs → First n (rs ++ more)
+    longer [] f = absurd f
+    longer (r ∷ rs) (inl p) = inl p
+    longer (r ∷ rs) (inr p) = inr (p .0, longer rs (p .1))
+
+-- what a list lets through, the next decides
+pub refusal-next : (rs more : List Rule) → None rs → refusal (rs ++ more) ≡ refusal more
+refusal-next [] more h = refl
+refusal-next (r ∷ rs) more h = rw (h .0) (refusal-next rs more (h .1))
+
+-- what a longer list lets through, its beginning does
+pub none-left : (rs more : List Rule) → None (rs ++ more) → None rs
+none-left [] more h = tt
+none-left (r ∷ rs) more h = (h .0, none-left rs more (h .1))
+
+pub none-right : (rs more : List Rule) → None (rs ++ more) → None more
+none-right [] more h = h
+none-right (r ∷ rs) more h = none-right rs more (h .1)

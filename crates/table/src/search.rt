@@ -1,0 +1,70 @@
+// The one search over the slots of a table: every question about the enabled links, and the lowest unused index, is asked here.
+use links::{Settings, Slot, Table};
+
+ghost use mathlib.Core.Path.{_≡_};
+ghost use Prim.Native.Nat.{_-_, _≤_, min};
+ghost use mathlib.Core.List.{[]};
+ghost use Rattle.links.specs.Slots.{counted, any, place, unused};
+ghost use Rattle.table.specs.Search.{passes};
+
+// Which slot is looked for.
+pub enum Wanted {
+    Unused,
+    SameGround,
+    Overlapping,
+    Reaching,
+}
+
+// Settings and address that no question needs are not looked at.
+fn is_wanted(x: Slot, wanted: Wanted, s: Settings, address: &[u8]) -> bool
+    ensures { λ r. ⌜ r ≡ passes wanted s (now (address .entry)) x ⌝ }
+{
+    let r = x.settings;
+    match wanted {
+        Wanted::Unused => !x.enabled,
+        Wanted::SameGround => x.enabled && area::equal(r.area, s.area),
+        Wanted::Overlapping => x.enabled && prefix::overlaps(r.prefix, s.prefix),
+        Wanted::Reaching => x.enabled && prefix::holds_address(r.prefix, address),
+    }
+}
+
+// How many slots count.
+pub fn slot_count(max: usize) -> usize
+    ensures { λ r. ⌜ r ≡ min (max - 1) 64 ⌝ }
+{
+    if max == 0 {
+        return 0;
+    }
+    if max < 65 { max - 1 } else { 64 }
+}
+
+// The place of the first slot that is wanted; the number of slots that count where there is none.
+pub fn first_place(t: Table, wanted: Wanted, s: Settings, address: &[u8]) -> usize
+    ensures { λ r. ⌜ r ≡ place (passes wanted s (now (address .entry))) (counted t) ⌝ }
+{
+    let n = slot_count(t.max);
+    let mut i: usize = 0;
+    while i < n {
+        let x = t.slots[i];
+        if is_wanted(x, wanted, s, address) {
+            return i;
+        }
+        i += 1;
+    }
+    i
+}
+
+// Is there a slot that is wanted? No address is asked for.
+pub fn has(t: Table, wanted: Wanted, s: Settings) -> bool
+    ensures { λ r. ⌜ r ≡ any (passes wanted s []) (counted t) ⌝ }
+{
+    first_place(t, wanted, s, b"") < slot_count(t.max)
+}
+
+// The place of the lowest unused index; the number of slots that count where all are in use.
+pub fn first_unused(t: Table) -> usize
+    ensures { λ r. ⌜ r ≡ place unused (counted t) ⌝ }
+{
+    let any = links::blank_slot();
+    first_place(t, Wanted::Unused, any.settings, b"")
+}
