@@ -23,6 +23,9 @@ use Rattle.table.proofs.slots.slot_at.Reads as slot-at-reads
 use Rattle.table.proofs.slots.with_slot.Reads as with-slot-reads
 use Rattle.table.proofs.without_link.Reads as without-link-reads
 
+all : (c : tie.Start) → length (c .args .t .slots) ≡ 64
+all c = search (length-mapped, needs)
+
 -- the slot that is found enabled is one of those that count
 on : (c : tie.After-blank-slot) → slotAt (counted (c .before .before .before .before .before .before .args .t)) (c .before .before .before .before .before .before .args .index .0) .enabled ≡ true
 on c = ap (λ (x : Slot). x .enabled) (sym (c .before .before .before .slot-at .ensures)) ∙ not-false (c .before .before .before .slot-at .result .enabled) (c .before .if2 .left)
@@ -31,9 +34,8 @@ below : (c : tie.After-blank-slot) → c .before .before .before .before .before
 below c =
     let t = c .before .before .before .before .before .before .args .t in
     let i = c .before .before .before .before .before .before .args .index .0 in
-    let all : length (t .slots) ≡ 64 = search (length-mapped, c .before .before .before .before .before .before .good, needs) in
     let there = enabled-below (counted t) (i - 2) (rw (slot-of-stop (counted t) i (c .before .before .before .before .if1 .left)) at (on c)) in
-    omega (arith, counted-length t 64 all)
+    omega (arith, counted-length t 64 (all (c .before .before .before .before .before .before)))
 
 -- src/lib.rt:73:9
 without-link-requires : tie.Need-without-link-requires
