@@ -9,8 +9,13 @@ use Rattle.octets.specs.Digits.{digits}
 use Rattle.replies.specs.Rules.{refusal}
 use Rattle.area.specs.declared.Area.{Area}
 use Rattle.area.specs.Area.{goodArea}
+use Rattle.links.specs.declared.PerhapsLink.{PerhapsLink}
+use Rattle.links.specs.declared.PerhapsLink.the-variants.{Link, Nothing}
+use Rattle.links.specs.declared.Settings.{Settings}
+use Rattle.links.specs.declared.Table.{Table}
+use Rattle.links.specs.Calls.{Call, enable, disable, reply, start, plain}
 use Rattle.ipv6.specs.declared.PerhapsMid.{PerhapsMid}
-use Rattle.ipv6.specs.declared.PerhapsMid.the-variants.{Mid, Nothing}
+use Rattle.ipv6.specs.declared.PerhapsMid.the-variants.{Mid, Nothing as NoMid}
 use Rattle.ipv6.specs.Packet.{packetRules}
 use Rattle.ipv6.specs.Identifier.{linkLocal, midOf}
 
@@ -38,7 +43,7 @@ says false = 0
 
 abbrev pub midOrZero : PerhapsMid → ℕ
 midOrZero (Mid m) = m
-midOrZero Nothing = 0
+midOrZero NoMid = 0
 
 -- an area at 0, 0 with a = 1
 abbrev pub shaped : ℕ → ℕ → ℕ → Area
@@ -53,10 +58,40 @@ packet n =
     ++ 1 ∷ 0xff ∷ 2 ∷ replicate 13 0
     ++ 1 ∷ replicate (n - 40) 0)
 
+-- the fresh table of a maximum, with fixed links of kind 1 and flag 1
+abbrev pub fresh : ℕ → Table
+fresh max = start 1 max plain plain .table
+
+abbrev pub indexOrZero : PerhapsLink → ℕ
+indexOrZero (Link i) = i .0
+indexOrZero Nothing = 0
+
+-- the links that calls give, one call after the other; 0 for none
+abbrev pub given : Table → List Call → List ℕ
+given t [] = []
+given t (c ∷ cs) = indexOrZero (reply t c .link) ∷ given (reply t c .table) cs
+
+-- a stop: a circle of radius n, no prefix
+abbrev pub stop : ℕ → Settings
+stop n = record {
+  area = record { shape = 0; latitude = pos 0; longitude = pos 0; a = n; b = 0; angle = 0 };
+  prefix = record { len = 0; bytes = replicate 16 0 };
+  kind = 1;
+  flag = 1;
+}
+
 unfoldable pub rows : List Row
 rows =
+    -- maximum 1 refused, 2 good, 65 good, 66 refused
+    (start 1 1 plain plain .number is 1)
+    ∷ (start 1 2 plain plain .number is 0)
+    ∷ (start 1 65 plain plain .number is 0)
+    ∷ (start 1 66 plain plain .number is 1)
+    -- links 2, 3, 4 enabled, 3 disabled: the next enabled gets 3
+    ∷ (given (fresh 65) (enable (stop 1) ∷ enable (stop 2) ∷ enable (stop 3) ∷ disable 3 ∷ enable (stop 4) ∷ [])
+    are (2 ∷ 3 ∷ 4 ∷ 0 ∷ 3 ∷ []))
     -- own MID 02:00:00:00:00:01 gives fe80::ff:fe00:1, and back
-    (linkLocal 0x020000000001 are (0xfe ∷ 0x80 ∷ replicate 9 0 ++ 0xff ∷ 0xfe ∷ 0 ∷ 0 ∷ 1 ∷ []))
+    ∷ (linkLocal 0x020000000001 are (0xfe ∷ 0x80 ∷ replicate 9 0 ++ 0xff ∷ 0xfe ∷ 0 ∷ 0 ∷ 1 ∷ []))
     ∷ (midOrZero (midOf (linkLocal 0x020000000001)) is 0x020000000001)
     -- angle 359 good, 360 not; ellipse with b = 0 not, circle with b = 0 good
     ∷ (says (goodArea (shaped 1 1 359)) is 1)

@@ -3,3 +3,7 @@ pub mod Search
 pub mod Fresh
 pub mod Counted
 pub mod Replies
+pub mod Slots
+pub mod Settings
+pub mod Sound
+pub mod Demands

@@ -102,10 +102,16 @@ unfoldable pub reply : Table → Call → Reply
 reply t c = answer (refusal (rules (counted t) c)) t c
 
 -- start: the least maximum is 2, and `most` the largest (65 for a table by value)
+abbrev pub startOk : ℕ → ℕ → ℕ → FixedSettings → FixedSettings → Bool
+startOk most own max tvl dgvl =
+    midOk own
+    && leb 2 max
+    && leb max most
+    && interfaceOk (tvl .kind) (tvl .flag)
+    && interfaceOk (dgvl .kind) (dgvl .flag)
+
 unfoldable pub startRules : ℕ → ℕ → ℕ → FixedSettings → FixedSettings → List Rule
-startRules most own max tvl dgvl =
-    1 if not (midOk own && leb 2 max && leb max most && interfaceOk (tvl .kind) (tvl .flag) && interfaceOk (dgvl .kind) (dgvl .flag))
-    then []
+startRules most own max tvl dgvl = 1 if not (startOk most own max tvl dgvl) then []
 
 -- the first n slots of a memory are cleared, or as many as it has
 unfoldable pub cleared : ℕ → List Slot → List Slot

@@ -1,3 +1,5 @@
 pub mod Settings
 pub mod Slots
 pub mod Calls
+pub mod Reached
+pub mod Demands

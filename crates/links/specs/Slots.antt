@@ -53,3 +53,7 @@ with q x = x .enabled && q (x .settings)
 -- slot k is enabled with these settings
 abbrev pub Has : List Slot → ℕ → Settings → Type 0
 Has l k s = getD l k free ≡ inUse s
+
+unfoldable pub enabledCount : List Slot → ℕ
+enabledCount [] = 0
+enabledCount (x ∷ l) = cond (x .enabled) (suc (enabledCount l)) (enabledCount l)

@@ -1,6 +1,6 @@
 // Which values of the settings are good: what refuses a call before the table is looked at.
-use crate::{DynamicArea, Settings};
-
+use crate::DynamicArea;
+use crate::Settings;
 ghost use mathlib.Core.Path.{_≡_};
 ghost use Rattle.replies.specs.Rules.{refusal};
 ghost use Rattle.links.specs.Settings.{midOk, interfaceOk, settingsRules};

@@ -5,19 +5,19 @@ pub mod checks;
 
 use area::Area;
 use prefix::Prefix;
-
 ghost use mathlib.Core.Path.{_≡_};
 ghost use lib.ListN.{replicate};
 ghost use Rattle.links.specs.Slots.{free};
 ghost use Rattle.links.specs.Calls.{fresh};
-
 
 // The index of a virtual link. The two fixed links bear index 0 and 1 always.
 pub struct LinkIndex(pub usize);
 
 impl LinkIndex {
     pub const TVL: LinkIndex = LinkIndex(0);
+
     pub const DGVL: LinkIndex = LinkIndex(1);
+
     pub const FIRST_STOP: LinkIndex = LinkIndex(2);
 }
 

@@ -1,7 +1,7 @@
 -- Document 01, Replies: refusals are conditions with their numbers, in order, and the first that holds is given.
-use Prim.Native.Nat.{ℕ}
+use Prim.Native.Nat.{ℕ, _<_}
 use mathlib.Core.Path.{_≡_}
-use mathlib.Core.Logic.{_⊎_}
+use mathlib.Core.Logic.{_⊎_, _↔_}
 use mathlib.Core.Bool.{Bool, true, false, cond}
 use mathlib.Core.List.{List, [], _∷_}
 
@@ -31,3 +31,8 @@ First n (r ∷ rs) = ((r .holds ≡ true) × (r .number ≡ n)) ⊎ ((r .holds �
 abbrev pub None : List Rule → Type 0
 None [] = Unit {0}
 None (r ∷ rs) = (r .holds ≡ false) × None rs
+
+-- each number is given exactly when its condition holds and no earlier one does, and 0 exactly when none holds
+pub record Exact (rs : List Rule) (given : ℕ) : Type 0 where
+  pub number : (n : ℕ) → 0 < n → (given ≡ n) ↔ First n rs
+  pub done : (given ≡ 0) ↔ None rs

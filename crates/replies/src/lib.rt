@@ -1,13 +1,24 @@
 // Document 01, Replies: the numbers of the table, by their meaning. The conditions stand in the specs of the crates that give them.
 pub const DONE: u8 = 0;
+
 pub const VALUE_OUT_OF_RANGE: u8 = 1;
+
 pub const AREA_NOT_GOOD: u8 = 2;
+
 pub const PREFIX_NOT_GOOD: u8 = 3;
+
 pub const AREA_IN_USE: u8 = 4;
+
 pub const PREFIX_OVERLAPS: u8 = 5;
+
 pub const NO_INDEX_FREE: u8 = 6;
+
 pub const NO_SUCH_LINK: u8 = 7;
+
 pub const PACKET_MALFORMED: u8 = 8;
+
 pub const PACKET_TOO_LONG: u8 = 9;
+
 pub const ADDRESS_NOT_ALLOWED: u8 = 10;
+
 pub const FIXED_LINK: u8 = 15;

@@ -1,11 +1,14 @@
 // Document 01, Virtual links: the calls that alter the table, over a table by value.
 // A call takes the table and returns it with the reply; a refusal returns it as it was.
-pub mod search;
-mod slots;
-
-use links::{DynamicArea, FixedSettings, LinkIndex, PerhapsLink, Reply, Settings, Slot, Table};
-use search::Wanted;
-
+use links::DynamicArea;
+use links::FixedSettings;
+use links::LinkIndex;
+use links::PerhapsLink;
+use links::Reply;
+use links::Settings;
+use links::Slot;
+use links::Table;
+use slots::Wanted;
 ghost use mathlib.Core.Path.{_≡_};
 ghost use Rattle.links.specs.Calls.{start, reply, enable, disable, setArea, setOwn};
 
@@ -30,11 +33,11 @@ pub fn start(own: u64, max: usize, tvl: FixedSettings, dgvl: FixedSettings) -> R
     if good {
         return without_link(Table::fresh(own, max, tvl, dgvl), replies::DONE);
     }
-    let plain = FixedSettings {
-        kind: 1,
-        flag: 1,
-    };
-    without_link(Table::fresh(0, 2, plain, plain), replies::VALUE_OUT_OF_RANGE)
+    let plain = FixedSettings { kind: 1, flag: 1 };
+    without_link(
+        Table::fresh(0, 2, plain, plain),
+        replies::VALUE_OUT_OF_RANGE,
+    )
 }
 
 pub fn enable(t: Table, s: Settings) -> Reply
@@ -44,16 +47,16 @@ pub fn enable(t: Table, s: Settings) -> Reply
     if bad != replies::DONE {
         return without_link(t, bad);
     }
-    if search::has(t, Wanted::SameGround, s) {
+    if slots::has(t, Wanted::SameGround, s) {
         return without_link(t, replies::AREA_IN_USE);
     }
-    if search::has(t, Wanted::Overlapping, s) {
+    if slots::has(t, Wanted::Overlapping, s) {
         return without_link(t, replies::PREFIX_OVERLAPS);
     }
-    if !search::has(t, Wanted::Unused, s) {
+    if !slots::has(t, Wanted::Unused, s) {
         return without_link(t, replies::NO_INDEX_FREE);
     }
-    let k = search::first_unused(t);
+    let k = slots::first_unused(t);
     let slot = Slot {
         enabled: true,
         settings: s,
@@ -76,7 +79,10 @@ pub fn disable(t: Table, index: LinkIndex) -> Reply
     if !slot.enabled {
         return without_link(t, replies::NO_SUCH_LINK);
     }
-    without_link(slots::with_slot(t, i - 2, links::blank_slot()), replies::DONE)
+    without_link(
+        slots::with_slot(t, i - 2, links::blank_slot()),
+        replies::DONE,
+    )
 }
 
 pub fn set_dgvl_area(t: Table, a: DynamicArea) -> Reply

@@ -33,6 +33,26 @@ any-place q (x ∷ l) = go (q x) (any-place q l)
     go true e = sym (lt-ltb 0 (suc (length l)) (omega arith))
     go false e = e ∙ sym (leb·suc-suc (suc (place q l)) (length l))
 
+-- no slot before the place passes, and the one there does
+pub before-place : (q : Slot → Bool) (l : List Slot) (j : ℕ) (d : Slot) → j < place q l → q (getD l j d) ≡ false
+unfolding place
+before-place q [] j d h = absurd (omega arith)
+before-place q (x ∷ l) j d h = go (q x) refl j h (λ i. before-place q l i d)
+  where
+    go : (t : Bool) → q x ≡ t → (j : ℕ) → j < cond t zero (suc (place q l)) → ((i : ℕ) → i < place q l → q (getD l i d) ≡ false) → q (getD (x ∷ l) j d) ≡ false
+    go true e j h f = absurd (omega arith)
+    go false e zero h f = e
+    go false e (suc j) h f = f j (omega arith)
+
+pub at-place : (q : Slot → Bool) (l : List Slot) (d : Slot) → place q l < length l → q (getD l (place q l) d) ≡ true
+unfolding place
+at-place q [] d h = absurd (omega arith)
+at-place q (x ∷ l) d h = go (q x) refl h (at-place q l d)
+  where
+    go : (t : Bool) → q x ≡ t → cond t zero (suc (place q l)) < suc (length l) → (place q l < length l → q (getD l (place q l) d) ≡ true) → q (getD (x ∷ l) (cond t zero (suc (place q l))) d) ≡ true
+    go true e h f = e
+    go false e h f = f (omega arith)
+
 -- A loop that goes through the run: none of the first i slots passes.
 pub record Looking (q : Slot → Bool) (l : List Slot) (n i : ℕ) : Type 0 where
   pub count : n ≡ length l

@@ -5,7 +5,7 @@ use mathlib.Core.Path.{_≡_, refl, sym}
 use mathlib.Core.Logic.{_⊎_, inl, inr, _↔_}
 use mathlib.Core.Bool.{Bool, true, false, cond}
 use mathlib.Core.List.{List, [], _∷_, _++_}
-use Rattle.replies.specs.Rules.{Rule, refusal, First, None}
+use Rattle.replies.specs.Rules.{Rule, refusal, First, None, Exact}
 
 -- no rule has the number 0, which means done
 abbrev pub Numbered : List Rule → Type 0
@@ -23,6 +23,7 @@ given-exactly rs n h = (there rs, back rs)
         go : (t : Bool) → r .holds ≡ t → cond t (r .number) (refusal rs) ≡ n → (refusal rs ≡ n → First n rs) → First n (r ∷ rs)
         go true p e f = inl (p, e)
         go false p e f = inr (p, f e)
+
     back : (rs : List Rule) → First n rs → refusal rs ≡ n
     back [] f = absurd f
     back (r ∷ rs) (inl p) = rw (p .0) (p .1)
@@ -39,6 +40,7 @@ done-exactly rs k = (there rs k, back rs)
         go : (t : Bool) → r .holds ≡ t → cond t (r .number) (refusal rs) ≡ 0 → (refusal rs ≡ 0 → None rs) → None (r ∷ rs)
         go true p e f = absurd (omega (arith, k .0))
         go false p e f = (p, f e)
+
     back : (rs : List Rule) → None rs → refusal rs ≡ 0
     back [] h = refl
     back (r ∷ rs) h = rw (h .0) (back rs (h .1))
@@ -65,3 +67,6 @@ none-left (r ∷ rs) more h = (h .0, none-left rs more (h .1))
 pub none-right : (rs more : List Rule) → None (rs ++ more) → None more
 none-right [] more h = h
 none-right (r ∷ rs) more h = none-right rs more (h .1)
+
+pub exact : (rs : List Rule) → Numbered rs → Exact rs (refusal rs)
+exact rs k = record { number = given-exactly rs; done = done-exactly rs k }

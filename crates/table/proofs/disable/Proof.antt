@@ -1,66 +1,41 @@
-use Prim.Native.Nat.{_-_, _<_}
-use native.Mathlib.Omega.{arith}
+-- `table::disable` meets its contract.
+use Prim.Native.Nat.{_-_}
 use mathlib.Core.Path.{_≡_, sym, _∙_, ap}
 use mathlib.Core.Bool.{true, false}
 use lib.Dec.{lit<}
-use lib.ListN.{length}
 use borrow.Author.Tests.{lt-ltb, le-ltb, not-true, not-false}
-use Rattle.octets.proofs.Laws.Runs.{length-mapped}
+use borrow.Author.Needs.{needs}
 use Rattle.links.specs.declared.PerhapsLink.the-variants.{Nothing}
 use Rattle.links.specs.declared.Slot.{Slot}
 use Rattle.links.specs.declared.Table.{Table}
 use Rattle.links.specs.Slots.{counted, slotAt}
 use Rattle.links.specs.Calls.{disable, rules, tableAfter, linkAfter, withSlot}
 use Rattle.links.proofs.Laws.Replies.{refused, done}
-use Rattle.links.proofs.Laws.Counted.{counted-length, enabled-below, slot-of-stop}
-use borrow.Author.Needs.{needs}
 use Rattle.table.proofs.disable.Statement.{statement}
 use Rattle.table.proofs.disable.Tie as tie
-use Rattle.table.proofs.disable.Reads as reads
-use Rattle.table.proofs.disable.Lts as lts
-use Rattle.links.proofs.blank_slot.Reads as blank-slot-reads
-use Rattle.table.proofs.slots.slot_at.Reads as slot-at-reads
-use Rattle.table.proofs.slots.with_slot.Reads as with-slot-reads
-use Rattle.table.proofs.without_link.Reads as without-link-reads
 
-all : (c : tie.Start) → length (c .args .t .slots) ≡ 64
-all c = search (length-mapped, needs)
-
--- the slot that is found enabled is one of those that count
 on : (c : tie.After-blank-slot) → slotAt (counted (c .before .before .before .before .before .before .args .t)) (c .before .before .before .before .before .before .args .index .0) .enabled ≡ true
 on c = ap (λ (x : Slot). x .enabled) (sym (c .before .before .before .slot-at .ensures)) ∙ not-false (c .before .before .before .slot-at .result .enabled) (c .before .if2 .left)
 
-below : (c : tie.After-blank-slot) → c .before .before .before .before .before .before .args .index .0 - 2 < 64
-below c =
-    let t = c .before .before .before .before .before .before .args .t in
-    let i = c .before .before .before .before .before .before .args .index .0 in
-    let there = enabled-below (counted t) (i - 2) (rw (slot-of-stop (counted t) i (c .before .before .before .before .if1 .left)) at (on c)) in
-    omega (arith, counted-length t 64 (all (c .before .before .before .before .before .before)))
-
--- src/lib.rt:73:9
 without-link-requires : tie.Need-without-link-requires
 without-link-requires c κs = search needs
 
--- src/lib.rt:73:9
 returns : tie.Need-returns
 unfolding rules
-returns c = 
+returns c =
     let args = c .before .before .before .args in
     c .without-link .ensures
     ∙ sym (refused (args .t) (disable (args .index .0)) 15 (lit< tt) (rw (lt-ltb _ _ (c .before .if1 .taken))))
 
--- src/lib.rt:75:9
 slot-at-requires : tie.Need-slot-at-requires
 slot-at-requires c κs = search needs
 
--- src/lib.rt:77:9
 without-link-requires-2 : tie.Need-without-link-requires-2
 without-link-requires-2 c κs = search needs
 
--- src/lib.rt:77:9
 returns-2 : tie.Need-returns-2
 unfolding rules
-returns-2 c = 
+returns-2 c =
     let args = c .before .before .before .before .before .before .args in
     let i = args .index .0 in
     let off : slotAt (counted (args .t)) i .enabled ≡ false =
@@ -68,26 +43,21 @@ returns-2 c =
     c .without-link2 .ensures
     ∙ sym (refused (args .t) (disable i) 7 (lit< tt) (rw (off, le-ltb i 2 (c .before .before .before .before .if1 .left))))
 
--- src/lib.rt:79:38
 sub-with-slot : tie.Need-sub-with-slot
 sub-with-slot c = search needs
 
--- src/lib.rt:79:45
 blank-slot-requires : tie.Need-blank-slot-requires
 blank-slot-requires c κs = search needs
 
--- src/lib.rt:79:18
 with-slot-requires : tie.Need-with-slot-requires
-with-slot-requires c κs = below c
+with-slot-requires c κs = search needs
 
--- src/lib.rt:79:5
 without-link-requires-3 : tie.Need-without-link-requires-3
 without-link-requires-3 c κs = search needs
 
--- src/lib.rt:68:1
 returns-3 : tie.Need-returns-3
 unfolding rules tableAfter linkAfter
-returns-3 c = 
+returns-3 c =
     let args = c .before .before .before .before .before .before .before .before .args in
     let i = args .index .0 in
     c .without-link3 .ensures

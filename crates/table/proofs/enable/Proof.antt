@@ -1,3 +1,4 @@
+-- `table::enable` meets its contract.
 use Prim.Native.Nat.{_<_}
 use native.Mathlib.Omega.{arith}
 use mathlib.Core.Path.{_≡_, sym, _∙_}
@@ -5,6 +6,7 @@ use mathlib.Core.Bool.{true}
 use lib.Dec.{lit<}
 use lib.ListN.{length}
 use borrow.Author.Tests.{ltb-true, not-false}
+use borrow.Author.Needs.{needs}
 use Rattle.octets.proofs.Laws.Runs.{length-mapped}
 use Rattle.replies.specs.Rules.{refusal}
 use Rattle.links.specs.Slots.{counted, any, place, unused}
@@ -12,16 +14,8 @@ use Rattle.links.specs.Calls.{enable, rules, slotRules, tableAfter, linkAfter}
 use Rattle.links.proofs.Laws.Replies.{refused, done, by-settings, by-slots}
 use Rattle.links.proofs.Laws.Counted.{counted-length}
 use Rattle.links.proofs.Laws.Search.{any-place}
-use borrow.Author.Needs.{needs}
 use Rattle.table.proofs.enable.Statement.{statement}
 use Rattle.table.proofs.enable.Tie as tie
-use Rattle.table.proofs.enable.Reads as reads
-use Rattle.table.proofs.enable.Lts as lts
-use Rattle.links.proofs.checks.refusal_of.Reads as refusal-of-reads
-use Rattle.table.proofs.search.first_unused.Reads as first-unused-reads
-use Rattle.table.proofs.search.has.Reads as has-reads
-use Rattle.table.proofs.slots.with_slot.Reads as with-slot-reads
-use Rattle.table.proofs.without_link.Reads as without-link-reads
 
 -- the settings are good: the slots decide
 passed : (c : tie.Else1) → refusal (rules (counted (c .before .before .args .t)) (enable (c .before .before .args .s))) ≡ refusal (slotRules (counted (c .before .before .args .t)) (c .before .before .args .s))
@@ -36,89 +30,73 @@ below c =
     let there : place unused (counted t) < length (counted t) = ltb-true _ _ (sym (any-place unused (counted t)) ∙ some) in
     rw (c .first-unused .ensures) (omega (arith, counted-length t 64 all))
 
--- src/lib.rt:43:9
 refusal-of-requires : tie.Need-refusal-of-requires
 refusal-of-requires c κs = search needs
 
--- src/lib.rt:45:9
 without-link-requires : tie.Need-without-link-requires
 without-link-requires c κs = search needs
 
--- src/lib.rt:45:9
 returns : tie.Need-returns
-returns c = 
+returns c =
     let args = c .before .before .before .args in
     let bad = c .before .before .refusal-of in
     let some : 0 < bad .result = omega (arith, c .before .if1 .taken) in
     c .without-link .ensures
     ∙ sym (refused (args .t) (enable (args .s)) (bad .result) some (by-settings (counted (args .t)) (args .s) (bad .result) some (sym (bad .ensures))))
 
--- src/lib.rt:47:8
 has-requires : tie.Need-has-requires
 has-requires c κs = search needs
 
--- src/lib.rt:48:9
 without-link-requires-2 : tie.Need-without-link-requires-2
 without-link-requires-2 c κs = search needs
 
--- src/lib.rt:48:9
 returns-2 : tie.Need-returns-2
 unfolding slotRules
-returns-2 c = 
+returns-2 c =
     let args = c .before .before .before .before .before .args in
     c .without-link2 .ensures
     ∙ sym (refused (args .t) (enable (args .s)) 4 (lit< tt) (passed (c .before .before .before) ∙ rw (← c .before .before .has .ensures, c .before .if2 .taken)))
 
--- src/lib.rt:50:8
 has-requires-2 : tie.Need-has-requires-2
 has-requires-2 c κs = search needs
 
--- src/lib.rt:51:9
 without-link-requires-3 : tie.Need-without-link-requires-3
 without-link-requires-3 c κs = search needs
 
--- src/lib.rt:51:9
 returns-3 : tie.Need-returns-3
 unfolding slotRules
-returns-3 c = 
+returns-3 c =
     let args = c .before .before .before .before .before .before .before .args in
     c .without-link3 .ensures
     ∙ sym (refused (args .t) (enable (args .s)) 5 (lit< tt)
     (passed (c .before .before .before .before .before) ∙ rw (← c .before .before .before .before .has .ensures, c .before .before .before .if2 .left, ← c .before .before .has2 .ensures, c .before .if3 .taken)))
 
--- src/lib.rt:53:9
 has-requires-3 : tie.Need-has-requires-3
 has-requires-3 c κs = search needs
 
--- src/lib.rt:54:9
 without-link-requires-4 : tie.Need-without-link-requires-4
 without-link-requires-4 c κs = search needs
 
--- src/lib.rt:54:9
 returns-4 : tie.Need-returns-4
 unfolding slotRules
-returns-4 c = 
+returns-4 c =
     let args = c .before .before .before .before .before .before .before .before .before .args in
     c .without-link4 .ensures
     ∙ sym (refused (args .t) (enable (args .s)) 6 (lit< tt)
     (passed (c .before .before .before .before .before .before .before) ∙ rw (← c .before .before .before .before .before .before .has .ensures, c .before .before .before .before .before .if2 .left, ← c .before .before .before .before .has2 .ensures, c .before .before .before .if3 .left, ← c .before .before .has3 .ensures, c .before .if4 .taken)))
 
--- src/lib.rt:56:9
 first-unused-requires : tie.Need-first-unused-requires
 first-unused-requires c κs = search needs
 
--- src/lib.rt:63:43
 add-t11 : tie.Need-add-t11
 add-t11 c = omega (arith, below c)
 
--- src/lib.rt:64:16
 with-slot-requires : tie.Need-with-slot-requires
-with-slot-requires c κs = below c
+with-slot-requires c κs = search needs
 
--- src/lib.rt:40:1
 returns-5 : tie.Need-returns-5
 unfolding slotRules tableAfter linkAfter
-returns-5 c = 
+returns-5 c =
     let args = c .before .before .before .before .before .before .before .before .before .before .args in
     rw (c .with-slot .ensures, c .before .first-unused .ensures)
     (sym (done (args .t) (enable (args .s))

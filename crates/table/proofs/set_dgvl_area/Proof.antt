@@ -1,39 +1,31 @@
+-- `table::set_dgvl_area` meets its contract.
 use mathlib.Core.Path.{sym, _∙_}
 use lib.Dec.{lit<}
+use borrow.Author.Needs.{needs}
 use Rattle.links.specs.Calls.{setArea, rules, tableAfter, linkAfter}
 use Rattle.links.proofs.Laws.Replies.{refused, done}
-use borrow.Author.Needs.{needs}
 use Rattle.table.proofs.set_dgvl_area.Statement.{statement}
 use Rattle.table.proofs.set_dgvl_area.Tie as tie
-use Rattle.table.proofs.set_dgvl_area.Reads as reads
-use Rattle.table.proofs.set_dgvl_area.Lts as lts
-use Rattle.links.proofs.checks.dynamic_area_good.Reads as dynamic-area-good-reads
-use Rattle.table.proofs.without_link.Reads as without-link-reads
 
--- src/lib.rt:85:9
 dynamic-area-good-requires : tie.Need-dynamic-area-good-requires
 dynamic-area-good-requires c κs = search needs
 
--- src/lib.rt:86:9
 without-link-requires : tie.Need-without-link-requires
 without-link-requires c κs = search needs
 
--- src/lib.rt:86:9
 returns : tie.Need-returns
 unfolding rules
-returns c = 
+returns c =
     let args = c .before .before .before .args in
     c .without-link .ensures
     ∙ sym (refused (args .t) (setArea (args .a)) 2 (lit< tt) (rw (← c .before .before .dynamic-area-good .ensures, c .before .if1 .taken)))
 
--- src/lib.rt:99:5
 without-link-requires-2 : tie.Need-without-link-requires-2
 without-link-requires-2 c κs = search needs
 
--- src/lib.rt:82:1
 returns-2 : tie.Need-returns-2
 unfolding rules tableAfter linkAfter
-returns-2 c = 
+returns-2 c =
     let args = c .before .before .before .before .before .before .args in
     c .without-link2 .ensures
     ∙ sym (done (args .t) (setArea (args .a)) (rw (← c .before .before .before .before .before .dynamic-area-good .ensures, c .before .before .before .before .if1 .left)))

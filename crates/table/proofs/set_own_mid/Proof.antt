@@ -1,39 +1,31 @@
+-- `table::set_own_mid` meets its contract.
 use mathlib.Core.Path.{sym, _∙_}
 use lib.Dec.{lit<}
+use borrow.Author.Needs.{needs}
 use Rattle.links.specs.Calls.{setOwn, rules, tableAfter, linkAfter}
 use Rattle.links.proofs.Laws.Replies.{refused, done}
-use borrow.Author.Needs.{needs}
 use Rattle.table.proofs.set_own_mid.Statement.{statement}
 use Rattle.table.proofs.set_own_mid.Tie as tie
-use Rattle.table.proofs.set_own_mid.Reads as reads
-use Rattle.table.proofs.set_own_mid.Lts as lts
-use Rattle.links.proofs.checks.mid_ok.Reads as mid-ok-reads
-use Rattle.table.proofs.without_link.Reads as without-link-reads
 
--- src/lib.rt:105:9
 mid-ok-requires : tie.Need-mid-ok-requires
 mid-ok-requires c κs = search needs
 
--- src/lib.rt:106:9
 without-link-requires : tie.Need-without-link-requires
 without-link-requires c κs = search needs
 
--- src/lib.rt:106:9
 returns : tie.Need-returns
 unfolding rules
-returns c = 
+returns c =
     let args = c .before .before .before .args in
     c .without-link .ensures
     ∙ sym (refused (args .t) (setOwn (args .mid)) 1 (lit< tt) (rw (← c .before .before .mid-ok .ensures, c .before .if1 .taken)))
 
--- src/lib.rt:109:5
 without-link-requires-2 : tie.Need-without-link-requires-2
 without-link-requires-2 c κs = search needs
 
--- src/lib.rt:102:1
 returns-2 : tie.Need-returns-2
 unfolding rules tableAfter linkAfter
-returns-2 c = 
+returns-2 c =
     let args = c .before .before .before .args in
     c .without-link2 .ensures
     ∙ sym (done (args .t) (setOwn (args .mid)) (rw (← c .before .before .mid-ok .ensures, c .before .if1 .left)))

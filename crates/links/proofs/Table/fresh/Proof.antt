@@ -1,22 +1,18 @@
+-- `links::Table::fresh` meets its contract.
 use Prim.Native.Nat.{_-_}
 use mathlib.Core.Path.{sym, _∙_, ap}
 use lib.ListN.{replicate}
+use borrow.Author.Needs.{needs}
 use Rattle.links.specs.declared.DynamicArea.the-variants.{Unset}
 use Rattle.links.specs.declared.Slot.{Slot}
-use Rattle.links.proofs.Laws.Fresh.{cleared-free}
 use Rattle.links.specs.Calls.{fresh}
-use borrow.Author.Needs.{needs}
+use Rattle.links.proofs.Laws.Fresh.{cleared-free}
 use Rattle.links.proofs.Table.fresh.Statement.{statement}
 use Rattle.links.proofs.Table.fresh.Tie as tie
-use Rattle.links.proofs.Table.fresh.Reads as reads
-use Rattle.links.proofs.Table.fresh.Lts as lts
-use Rattle.links.proofs.blank_slot.Reads as blank-slot-reads
 
--- src/lib.rt:104:21
 blank-slot-requires : tie.Need-blank-slot-requires
 blank-slot-requires c κs = search needs
 
--- src/lib.rt:95:5
 returns : tie.Need-returns
 unfolding fresh
 returns c =

@@ -1,11 +1,9 @@
+-- `links::checks::interface_ok` meets its contract.
 use mathlib.Core.Path.{refl}
 use Rattle.links.specs.Settings.{interfaceOk}
 use Rattle.links.proofs.checks.interface_ok.Statement.{statement}
 use Rattle.links.proofs.checks.interface_ok.Tie as tie
-use Rattle.links.proofs.checks.interface_ok.Reads as reads
-use Rattle.links.proofs.checks.interface_ok.Lts as lts
 
--- src/checks.rt:15:1
 returns : tie.Need-returns
 unfolding interfaceOk
 returns c = refl

@@ -1,42 +1,32 @@
+-- `links::checks::refusal_of` meets its contract.
 use borrow.Author.Tests.{not-true, not-false}
-use Rattle.links.specs.Settings.{settingsRules}
 use borrow.Author.Needs.{needs}
+use Rattle.links.specs.Settings.{settingsRules}
+use Rattle.prefix.proofs.good.Reads as good-reads′
 use Rattle.links.proofs.checks.refusal_of.Statement.{statement}
 use Rattle.links.proofs.checks.refusal_of.Tie as tie
-use Rattle.links.proofs.checks.refusal_of.Reads as reads
-use Rattle.links.proofs.checks.refusal_of.Lts as lts
-use Rattle.area.proofs.good.Reads as good-reads
-use Rattle.links.proofs.checks.interface_ok.Reads as interface-ok-reads
-use Rattle.prefix.proofs.good.Reads as good-reads′
 
--- src/checks.rt:34:9
 interface-ok-requires : tie.Need-interface-ok-requires
 interface-ok-requires c κs = search needs
 
--- src/checks.rt:35:9
 returns : tie.Need-returns
 unfolding settingsRules
 returns c = rw (← c .before .interface-ok .ensures, not-true (c .before .interface-ok .result) (c .if1 .taken))
 
--- src/checks.rt:37:9
 good-requires : tie.Need-good-requires
 good-requires c κs = search needs
 
--- src/checks.rt:38:9
 returns-2 : tie.Need-returns-2
 unfolding settingsRules
 returns-2 c = rw (← c .before .before .before .interface-ok .ensures, not-false (c .before .before .before .interface-ok .result) (c .before .before .if1 .left), ← c .before .good2 .ensures, not-true (c .before .good2 .result) (c .if2 .taken))
 
--- src/checks.rt:40:9
 good-requires-2 : tie.Need-good-requires-2
 good-requires-2 c κs = search needs
 
--- src/checks.rt:41:9
 returns-3 : tie.Need-returns-3
 unfolding settingsRules
 returns-3 c = rw (← c .before .before .before .before .before .interface-ok .ensures, not-false (c .before .before .before .before .before .interface-ok .result) (c .before .before .before .before .if1 .left), ← c .before .before .before .good2 .ensures, not-false (c .before .before .before .good2 .result) (c .before .before .if2 .left), ← c .before .good3 .ensures, not-true (c .before .good3 .result) (c .if3 .taken))
 
--- src/checks.rt:31:1
 returns-4 : tie.Need-returns-4
 unfolding settingsRules
 returns-4 c = rw (← c .before .before .before .before .before .interface-ok .ensures, not-false (c .before .before .before .before .before .interface-ok .result) (c .before .before .before .before .if1 .left), ← c .before .before .before .good2 .ensures, not-false (c .before .before .before .good2 .result) (c .before .before .if2 .left), ← c .before .good3 .ensures, not-false (c .before .good3 .result) (c .if3 .left))

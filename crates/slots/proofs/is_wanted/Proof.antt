@@ -1,69 +1,51 @@
-use Rattle.links.specs.Settings.{sameGround, overlaps, reaches}
+-- `slots::is_wanted` meets its contract.
 use borrow.Author.Needs.{needs}
-use Rattle.table.proofs.search.is_wanted.Statement.{statement}
-use Rattle.table.proofs.search.is_wanted.Tie as tie
-use Rattle.table.proofs.search.is_wanted.Reads as reads
-use Rattle.table.proofs.search.is_wanted.Lts as lts
-use Rattle.area.proofs.equal.Reads as equal-reads
-use Rattle.prefix.proofs.holds_address.Reads as holds-address-reads
-use Rattle.prefix.proofs.overlaps.Reads as overlaps-reads
+use Rattle.links.specs.Settings.{sameGround, overlaps, reaches}
+use Rattle.slots.proofs.is_wanted.Statement.{statement}
+use Rattle.slots.proofs.is_wanted.Tie as tie
 
--- src/search.rt:23:27
 enum-told : tie.Need-enum-told
 enum-told c = search needs
 
--- src/search.rt:24:31
 enum-told-2 : tie.Need-enum-told-2
 enum-told-2 c = search needs
 
--- src/search.rt:24:44
 equal-requires : tie.Need-equal-requires
 equal-requires c κs = search needs
 
--- src/search.rt:25:32
 enum-told-3 : tie.Need-enum-told-3
 enum-told-3 c = search needs
 
--- src/search.rt:25:45
 overlaps-requires : tie.Need-overlaps-requires
 overlaps-requires c κs = search needs
 
--- src/search.rt:26:29
 enum-told-4 : tie.Need-enum-told-4
 enum-told-4 c = search needs
 
--- src/search.rt:26:42
 holds-address-requires : tie.Need-holds-address-requires
 holds-address-requires c κs = search needs
 
--- src/search.rt:18:1
 returns : tie.Need-returns
-returns c = rw (c .before .enum-told .given .1)
+returns c = rw (c .enum-told .given .1)
 
--- src/search.rt:18:1
 returns-2 : tie.Need-returns-2
 unfolding sameGround
 returns-2 c = rw (c .before .before .enum-told2 .given .1, c .before .if1 .taken, c .equal .ensures)
 
--- src/search.rt:18:1
 returns-3 : tie.Need-returns-3
 returns-3 c = rw (c .before .enum-told2 .given .1, c .if1 .left)
 
--- src/search.rt:18:1
 returns-4 : tie.Need-returns-4
 unfolding overlaps
 returns-4 c = rw (c .before .before .enum-told3 .given .1, c .before .if2 .taken, c .overlaps .ensures)
 
--- src/search.rt:18:1
 returns-5 : tie.Need-returns-5
 returns-5 c = rw (c .before .enum-told3 .given .1, c .if2 .left)
 
--- src/search.rt:18:1
 returns-6 : tie.Need-returns-6
 unfolding reaches
 returns-6 c = rw (c .before .before .enum-told4 .given .1, c .before .if3 .taken, c .holds-address .ensures)
 
--- src/search.rt:18:1
 returns-7 : tie.Need-returns-7
 returns-7 c = rw (c .before .enum-told4 .given .1, c .if3 .left)
 

@@ -6,8 +6,8 @@ use Rattle.links.specs.declared.Settings.{Settings}
 use Rattle.links.specs.declared.Slot.{Slot}
 use Rattle.links.specs.Settings.{sameGround, overlaps, reaches}
 use Rattle.links.specs.Slots.{unused, with}
-use Rattle.table.specs.declared.search.Wanted.{Wanted}
-use Rattle.table.specs.declared.search.Wanted.the-variants.{Unused, SameGround, Overlapping, Reaching}
+use Rattle.slots.specs.declared.Wanted.{Wanted}
+use Rattle.slots.specs.declared.Wanted.the-variants.{Unused, SameGround, Overlapping, Reaching}
 
 abbrev pub passes : Wanted → Settings → List ℕ → Slot → Bool
 passes Unused s address = unused

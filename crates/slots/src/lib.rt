@@ -1,11 +1,15 @@
-// The one search over the slots of a table: every question about the enabled links, and the lowest unused index, is asked here.
-use links::{Settings, Slot, Table};
-
+// The slots of a table by value: read one, replace one, and look for one. Every question about the enabled links, and the lowest
+// unused index, is asked of the one loop in `first_place`.
+use links::LinkIndex;
+use links::Settings;
+use links::Slot;
+use links::Table;
 ghost use mathlib.Core.Path.{_≡_};
-ghost use Prim.Native.Nat.{_-_, _≤_, min};
 ghost use mathlib.Core.List.{[]};
-ghost use Rattle.links.specs.Slots.{counted, any, place, unused};
-ghost use Rattle.table.specs.Search.{passes};
+ghost use Prim.Native.Nat.{_-_, min};
+ghost use Rattle.links.specs.Slots.{counted, slotAt, any, place, unused};
+ghost use Rattle.links.specs.Calls.{withSlot};
+ghost use Rattle.slots.specs.Search.{passes};
 
 // Which slot is looked for.
 pub enum Wanted {
@@ -20,11 +24,12 @@ fn is_wanted(x: Slot, wanted: Wanted, s: Settings, address: &[u8]) -> bool
     ensures { λ r. ⌜ r ≡ passes wanted s (now (address .entry)) x ⌝ }
 {
     let r = x.settings;
+    let on = x.enabled;
     match wanted {
-        Wanted::Unused => !x.enabled,
-        Wanted::SameGround => x.enabled && area::equal(r.area, s.area),
-        Wanted::Overlapping => x.enabled && prefix::overlaps(r.prefix, s.prefix),
-        Wanted::Reaching => x.enabled && prefix::holds_address(r.prefix, address),
+        Wanted::Unused => !on,
+        Wanted::SameGround => on && area::equal(r.area, s.area),
+        Wanted::Overlapping => on && prefix::overlaps(r.prefix, s.prefix),
+        Wanted::Reaching => on && prefix::holds_address(r.prefix, address),
     }
 }
 
@@ -67,4 +72,29 @@ pub fn first_unused(t: Table) -> usize
 {
     let any = links::blank_slot();
     first_place(t, Wanted::Unused, any.settings, b"")
+}
+
+// The slot of a link; a blank one for a fixed link and for an index that does not count.
+pub fn slot_at(t: Table, index: LinkIndex) -> Slot
+    ensures { λ r. ⌜ r ≡ slotAt (counted t) (index .0) ⌝ }
+{
+    let i = index.0;
+    if i < 2 {
+        return links::blank_slot();
+    }
+    let k = i - 2;
+    if slot_count(t.max) <= k {
+        return links::blank_slot();
+    }
+    t.slots[k]
+}
+
+// The table with another slot k; past the last slot there is none to replace.
+pub fn with_slot(mut t: Table, k: usize, x: Slot) -> Table
+    ensures { λ r. ⌜ r ≡ withSlot t k x ⌝ }
+{
+    if k < 64 {
+        t.slots[k] = x;
+    }
+    t
 }

@@ -1,55 +1,44 @@
+-- `slots::slot_at` meets its contract.
 use Prim.Native.Nat.{_-_, _≤_, _<_}
 use native.Mathlib.Omega.{arith}
 use mathlib.Core.Path.{_≡_, sym, _∙_}
 use lib.ListN.{length}
 use borrow.Author.Tests.{lt-ltb}
+use borrow.Author.Needs.{needs}
 use Rattle.octets.proofs.Laws.Runs.{length-mapped}
 use Rattle.links.specs.Slots.{free, counted}
 use Rattle.links.proofs.Laws.Counted.{counted-length, counted-at, any-default, beyond, slot-of-stop}
-use borrow.Author.Needs.{needs}
-use Rattle.table.proofs.slots.slot_at.Statement.{statement}
-use Rattle.table.proofs.slots.slot_at.Tie as tie
-use Rattle.table.proofs.slots.slot_at.Reads as reads
-use Rattle.table.proofs.slots.slot_at.Lts as lts
-use Rattle.links.proofs.blank_slot.Reads as blank-slot-reads
-use Rattle.table.proofs.search.slot_count.Reads as slot-count-reads
+use Rattle.slots.proofs.slot_at.Statement.{statement}
+use Rattle.slots.proofs.slot_at.Tie as tie
 
--- src/slots.rt:15:9
 blank-slot-requires : tie.Need-blank-slot-requires
 blank-slot-requires c κs = search needs
 
--- src/slots.rt:15:9
 returns : tie.Need-returns
 returns c = rw (lt-ltb _ _ (c .before .if1 .taken), c .blank-slot .ensures)
 
--- src/slots.rt:18:8
 slot-count-requires : tie.Need-slot-count-requires
 slot-count-requires c κs = search needs
 
--- src/slots.rt:19:9
 blank-slot-requires-2 : tie.Need-blank-slot-requires-2
 blank-slot-requires-2 c κs = search needs
 
--- src/slots.rt:19:9
 returns-2 : tie.Need-returns-2
-returns-2 c = 
+returns-2 c =
     let args = c .before .before .before .before .args in
     let i = args .index .0 in
     let all : length (args .t1 .slots) ≡ 64 = search (length-mapped, needs) in
     let past : length (counted (args .t1)) ≤ i - 2 = omega (arith, counted-length (args .t1) 64 all) in
     c .blank-slot2 .ensures ∙ sym (slot-of-stop (counted (args .t1)) i (omega arith) ∙ beyond (counted (args .t1)) (i - 2) past)
 
--- src/slots.rt:21:5
 mul-result : tie.Need-mul-result
 mul-result c = search needs
 
--- src/slots.rt:21:5
 element-copy-out-result : tie.Need-element-copy-out-result
 element-copy-out-result c = search needs
 
--- src/slots.rt:10:1
 returns-3 : tie.Need-returns-3
-returns-3 c = 
+returns-3 c =
     let args = c .before .before .before .before .args in
     let i = args .index .0 in
     let all : length (args .t1 .slots) ≡ 64 = search (length-mapped, needs) in

@@ -1,19 +1,16 @@
+-- `slots::first_place` meets its contract.
 use Prim.Native.Nat.{_-_}
 use native.Mathlib.Omega.{arith}
-use borrow.Author.Needs.{needs}
 use mathlib.Core.Path.{_≡_, sym, _∙_, ap}
 use lib.ListN.{length}
+use borrow.Author.Needs.{needs}
 use Rattle.octets.proofs.Laws.Runs.{length-mapped}
 use Rattle.links.specs.Slots.{free, counted}
 use Rattle.links.proofs.Laws.Counted.{counted-length, counted-at}
 use Rattle.links.proofs.Laws.Search.{Looking, start, hit, pass, end}
-use Rattle.table.specs.Search.{passes}
-use Rattle.table.proofs.search.first_place.Statement.{statement}
-use Rattle.table.proofs.search.first_place.Tie as tie
-use Rattle.table.proofs.search.first_place.Reads as reads
-use Rattle.table.proofs.search.first_place.Lts as lts
-use Rattle.table.proofs.search.is_wanted.Reads as is-wanted-reads
-use Rattle.table.proofs.search.slot_count.Reads as slot-count-reads
+use Rattle.slots.specs.Search.{passes}
+use Rattle.slots.proofs.first_place.Statement.{statement}
+use Rattle.slots.proofs.first_place.Tie as tie
 
 abbrev Inv-loop : tie.InvT-loop
 Inv-loop wanted s address t n i₀ i = Looking (passes wanted s address) (counted t) n i
@@ -21,30 +18,24 @@ Inv-loop wanted s address t n i₀ i = Looking (passes wanted s address) (counte
 abbrev μ-loop : tie.MeasureT-loop
 μ-loop wanted s address t n i₀ i = n - i
 
--- src/search.rt:44:9
 slot-count-requires : tie.Need-slot-count-requires Inv-loop μ-loop
 slot-count-requires c κs = search needs
 
--- src/search.rt:46:5
 loop-holds : tie.Need-loop-holds Inv-loop μ-loop
 loop-holds c =
     let args = c .before .before .args in
     let all : length (args .t1 .slots) ≡ 64 = search (length-mapped, needs) in
     start (passes (args .wanted) (args .s) (args .address .now)) (counted (args .t1)) (c .slot-count .ensures ∙ sym (counted-length (args .t1) 64 all))
 
--- src/search.rt:47:17
 mul-x : tie.Need-mul-x Inv-loop μ-loop
 mul-x c = omega arith
 
--- src/search.rt:47:17
 element-copy-out-x : tie.Need-element-copy-out-x Inv-loop μ-loop
 element-copy-out-x c = omega arith
 
--- src/search.rt:48:12
 is-wanted-requires : tie.Need-is-wanted-requires Inv-loop μ-loop
 is-wanted-requires c κs = search needs
 
--- src/search.rt:49:13
 returns : tie.Need-returns Inv-loop μ-loop
 returns c =
     let args = c .before .before .before .before .before .before .before .args in
@@ -53,15 +44,12 @@ returns c =
     hit q (counted (args .t1)) (l .inv) _ (omega arith)
     (ap q (counted-at (args .t1) (l .i) _ (omega arith)) ∙ sym (c .before .is-wanted .ensures) ∙ c .if1 .taken)
 
--- src/search.rt:51:9
 add-i : tie.Need-add-i Inv-loop μ-loop
 add-i c = omega arith
 
--- src/search.rt:46:5
 loop-less : tie.Need-loop-less Inv-loop μ-loop
 loop-less c = omega arith
 
--- src/search.rt:46:5
 loop-again : tie.Need-loop-again Inv-loop μ-loop
 loop-again c =
     let args = c .before .before .before .before .before .before .before .args in
@@ -70,7 +58,6 @@ loop-again c =
     pass q (counted (args .t1)) (l .inv) _ (omega arith)
     (ap q (counted-at (args .t1) (l .i) _ (omega arith)) ∙ sym (c .before .is-wanted .ensures) ∙ c .if1 .left)
 
--- src/search.rt:41:1
 returns-2 : tie.Need-returns-2 Inv-loop μ-loop
 returns-2 c =
     let args = c .before .before .before .before .args in

@@ -1,0 +1,143 @@
+-- Demands 1 and 2 for the calls that alter the table.
+use Prim.Native.Nat.{ℕ, zero, suc, _+_, _-_, _≤_, _<_}
+use native.Mathlib.Omega.{arith}
+use mathlib.Core.Path.{_≡_, refl, sym, _∙_, ap, subst}
+use mathlib.Core.Logic.{_≢_}
+use mathlib.Core.Bool.{Bool, true, false}
+use mathlib.Core.List.{List}
+use lib.Dec.{lit<}
+use lib.ListN.{length, getD, set, replicate}
+use lib.Seq.{getD-set-same, getD-set-other}
+use borrow.Author.Tests.{ltb-true, ltb-false, not-true, not-false}
+use Rattle.replies.specs.Rules.{refusal, None, Exact}
+use Rattle.replies.proofs.Laws.Refusals.{done-exactly, none-right, exact}
+use Rattle.links.specs.declared.FixedSettings.{FixedSettings}
+use Rattle.links.specs.declared.PerhapsLink.the-variants.{Nothing}
+use Rattle.links.specs.declared.Reply.{Reply}
+use Rattle.links.specs.declared.Settings.{Settings}
+use Rattle.links.specs.declared.Slot.{Slot}
+use Rattle.links.specs.declared.Table.{Table}
+use Rattle.links.specs.Settings.{settingsRules}
+use Rattle.links.specs.Slots.{free, inUse, counted, slotAt, any, place, unused}
+use Rattle.links.specs.Calls.{Call, enable, disable, setArea, setOwn, slotRules, rules, linkAfter, tableAfter, answer, reply, withSlot, startRules, fresh, plain, begin, start}
+use Rattle.links.specs.Reached.{Reached, Sound}
+use Rattle.links.specs.Demands.{Refuses, RefusesStart, TableDemand1, DifferAt, Adds, Removes, TableDemand2}
+use Rattle.links.proofs.Laws.Search.{any-place, before-place, at-place}
+use Rattle.links.proofs.Laws.Counted.{enabled-below, slot-of-stop}
+use Rattle.links.proofs.Laws.Slots.{counted-with}
+use Rattle.links.proofs.Laws.Replies.{numbered, done}
+use Rattle.links.proofs.Laws.Sound.{sound}
+
+-- Demand 1
+
+number-is : (n : ℕ) (t : Table) (c : Call) → answer n t c .number ≡ n
+number-is zero t c = refl
+number-is (suc n) t c = refl
+
+unchanged : (n : ℕ) (t : Table) (c : Call) → answer n t c .number ≢ 0 → (answer n t c .table ≡ t) × (answer n t c .link ≡ Nothing)
+unchanged zero t c h = absurd (h refl)
+unchanged (suc n) t c h = (refl, refl)
+
+pub refuses : (t : Table) (c : Call) → Refuses t c
+unfolding reply
+refuses t c = record {
+  exact = subst (Exact (rules (counted t) c)) (sym (number-is (refusal (rules (counted t) c)) t c)) (exact (rules (counted t) c) (numbered (counted t) c));
+  unchanged = unchanged (refusal (rules (counted t) c)) t c;
+}
+
+begin-number : (n : ℕ) (memory : List Slot) (own max : ℕ) (tvl dgvl : FixedSettings) → begin n memory own max tvl dgvl .number ≡ n
+begin-number zero memory own max tvl dgvl = refl
+begin-number (suc n) memory own max tvl dgvl = refl
+
+begin-plain : (n : ℕ) (memory : List Slot) (own max : ℕ) (tvl dgvl : FixedSettings) → begin n memory own max tvl dgvl .number ≢ 0
+    → begin n memory own max tvl dgvl .table ≡ fresh memory 0 2 plain plain
+begin-plain zero memory own max tvl dgvl h = absurd (h refl)
+begin-plain (suc n) memory own max tvl dgvl h = refl
+
+pub refuses-start : (own max : ℕ) (tvl dgvl : FixedSettings) → RefusesStart own max tvl dgvl
+unfolding start startRules
+refuses-start own max tvl dgvl = record {
+  exact =
+      subst (Exact (startRules 65 own max tvl dgvl)) (sym (begin-number (refusal (startRules 65 own max tvl dgvl)) (replicate 64 free) own max tvl dgvl))
+      (exact (startRules 65 own max tvl dgvl) (lit< tt, tt));
+  plainTable = begin-plain (refusal (startRules 65 own max tvl dgvl)) (replicate 64 free) own max tvl dgvl;
+}
+
+pub table-demand-1 : TableDemand1
+unfolding TableDemand1
+table-demand-1 = (refuses, refuses-start)
+
+-- Demand 2
+
+-- an answer 0: no rule holds, and the table is the one after the call
+module _ (t : Table) (c : Call) (e : reply t c .number ≡ 0) where
+  zero-given : refusal (rules (counted t) c) ≡ 0
+  unfolding reply
+  zero-given = sym (number-is (refusal (rules (counted t) c)) t c) ∙ e
+
+  none-holds : None (rules (counted t) c)
+  none-holds = done-exactly (rules (counted t) c) (numbered (counted t) c) .0 zero-given
+
+  table-is : reply t c .table ≡ tableAfter t c
+  table-is = ap (λ (r : Reply). r .table) (done t c zero-given)
+
+  link-is : reply t c .link ≡ linkAfter (counted t) c
+  link-is = ap (λ (r : Reply). r .link) (done t c zero-given)
+
+-- one slot is replaced
+module _ (t u : Table) (k : ℕ) (x : Slot) (e : u ≡ withSlot t k x) where
+  run-is : counted u ≡ set (counted t) k x
+  run-is = ap counted e ∙ counted-with t k x
+
+  at-k : k < length (counted t) → getD (counted u) k free ≡ x
+  at-k h = ap (λ (l : List Slot). getD l k free) run-is ∙ getD-set-same (counted t) k x free h
+
+  differ : DifferAt k t u
+  differ = record {
+    own = sym (ap (λ (v : Table). v .own) e);
+    max = sym (ap (λ (v : Table). v .max) e);
+    tvl = sym (ap (λ (v : Table). v .tvl) e);
+    dgvl = sym (ap (λ (v : Table). v .dgvl) e);
+    area = sym (ap (λ (v : Table). v .area) e);
+    others = λ j n. sym (ap (λ (l : List Slot). getD l j free) run-is ∙ getD-set-other (counted t) k j x free n);
+  }
+
+module _ (most : ℕ) (memory : List Slot) (t : Table) (h : Sound most memory t) where
+  adds : (s : Settings) → reply t (enable s) .number ≡ 0 → (k : ℕ) × Adds t s k
+  unfolding rules slotRules tableAfter linkAfter
+  adds s e =
+      let l = counted t in
+      let k = place unused l in
+      let slots = none-right (settingsRules s) (slotRules l s) (none-holds t (enable s) e) in
+      let below : k < length l = ltb-true k (length l) (sym (any-place unused l) ∙ not-false (any unused l) (slots .1 .1 .0)) in
+      let now-is = table-is t (enable s) e in (
+        k,
+        record {
+          link = link-is t (enable s) e;
+          within = omega (arith, h .room, h .least);
+          lower = λ j b. not-false _ (before-place unused l j free b);
+          unused = h .blank k (not-true _ (at-place unused l free below));
+          there = at-k t (reply t (enable s) .table) k (inUse s) now-is below;
+          alone = differ t (reply t (enable s) .table) k (inUse s) now-is;
+        },
+      )
+
+  removes : (i : ℕ) → reply t (disable i) .number ≡ 0 → Removes t i
+  unfolding rules tableAfter
+  removes i e =
+      let l = counted t in
+      let none = none-holds t (disable i) e in
+      let stop : 2 ≤ i = ltb-false i 2 (none .0) in
+      let on : getD l (i - 2) free .enabled ≡ true = rw (slot-of-stop l i stop) at (not-false (slotAt l i .enabled) (none .1 .0)) in
+      let now-is = table-is t (disable i) e in
+      record {
+        stop = stop;
+        was = on;
+        gone = at-k t (reply t (disable i) .table) (i - 2) free now-is (enabled-below l (i - 2) on);
+        alone = differ t (reply t (disable i) .table) (i - 2) free now-is;
+      }
+
+pub table-demand-2 : TableDemand2
+unfolding TableDemand2 tableAfter
+table-demand-2 most memory t r =
+    (adds most memory t (sound r), removes most memory t (sound r), λ a e. table-is t (setArea a) e, λ m e. table-is t (setOwn m) e)

@@ -1,0 +1,209 @@
+-- Every table that calls reach is sound.
+use Prim.Native.Nat.{ℕ, zero, suc, _-_, _^_, _≤_, _<_}
+use native.Mathlib.Omega.{arith}
+use mathlib.Core.Path.{_≡_, refl, sym, _∙_, ap, subst}
+use mathlib.Core.Logic.{_⊎_, inl, inr}
+use mathlib.Core.Bool.{Bool, true, false, and-eq-true-iff}
+use mathlib.Core.List.{List}
+use lib.Dec.{eqb, lit<, lit≤}
+use lib.ListN.{length, take, drop, set, getD, replicate, length-take, length-set}
+use lib.Seq.{getD-set-same, getD-set-other, drop-set-lt}
+use borrow.Author.Tests.{leb-true, ltb-true, ltb-false, not-false, eqb-true, eqb-false}
+use Rattle.octets.proofs.Laws.Tests.{clash}
+use Rattle.replies.specs.Rules.{refusal, None}
+use Rattle.replies.proofs.Laws.Refusals.{done-exactly, none-left, none-right}
+use Rattle.links.specs.declared.DynamicArea.{DynamicArea}
+use Rattle.links.specs.declared.FixedSettings.{FixedSettings}
+use Rattle.links.specs.declared.Settings.{Settings}
+use Rattle.links.specs.declared.Slot.{Slot}
+use Rattle.links.specs.declared.Table.{Table}
+use Rattle.links.specs.Settings.{midOk, interfaceOk, settingsRules, sameGround, overlaps}
+use Rattle.links.specs.Slots.{Has, free, inUse, counted, slotAt, any, place, unused, enabledCount}
+use Rattle.links.specs.Calls.{Call, enable, disable, setArea, setOwn, slotRules, rules, withSlot, withArea, withOwn, goodDynamic, startOk, startRules, cleared, fresh, plain, begin, start, tableAfter, answer, reply}
+use Rattle.links.specs.Reached.{Reached, started, called, ByValue, Apart, Sound}
+use Rattle.links.proofs.Laws.Settings.{ground-sym, overlaps-sym}
+use Rattle.links.proofs.Laws.Search.{any-place}
+use Rattle.links.proofs.Laws.Counted.{enabled-below, slot-of-stop}
+use Rattle.links.proofs.Laws.Slots.{free-has-none, any-none, has-set, counted-with, cleared-blank, cleared-length, cleared-rest, count-within}
+use Rattle.links.proofs.Laws.Replies.{settings-numbered, numbered}
+
+-- a slot of the run is replaced: what the new one is to be, and the rest as it was
+module _ (most : ℕ) (memory : List Slot) (t : Table) (h : Sound most memory t) (k : ℕ) (x : Slot) where
+  room-with : length (counted (withSlot t k x)) ≡ t .max - 1
+  room-with = ap length (counted-with t k x) ∙ length-set (counted t) k x ∙ h .room
+
+  few-with : enabledCount (counted (withSlot t k x)) ≤ t .max - 1
+  few-with = subst (λ (n : ℕ). enabledCount (counted (withSlot t k x)) ≤ n) room-with (count-within (counted (withSlot t k x)))
+
+  rest-with : k < length (counted t) → drop (t .max - 1) (set (t .slots) k x) ≡ drop (t .max - 1) memory
+  rest-with l = drop-set-lt (t .max - 1) (t .slots) k x (subst (λ (n : ℕ). k < n) (h .room) l) ∙ h .rest
+
+  blank-with : k < length (counted t) → (x .enabled ≡ false → x ≡ free) → (j : ℕ) → getD (counted (withSlot t k x)) j free .enabled ≡ false → getD (counted (withSlot t k x)) j free ≡ free
+  blank-with l b j = subst (λ (r : List Slot). getD r j free .enabled ≡ false → getD r j free ≡ free) (sym (counted-with t k x)) (go (eqb j k) refl)
+    where
+      go : (e : Bool) → eqb j k ≡ e → getD (set (counted t) k x) j free .enabled ≡ false → getD (set (counted t) k x) j free ≡ free
+      go true e =
+          let there : getD (set (counted t) k x) j free ≡ x =
+          ap (λ (n : ℕ). getD (set (counted t) k x) n free) (eqb-true j k e) ∙ getD-set-same (counted t) k x free l in
+          rw there b
+      go false e = rw (getD-set-other (counted t) k j x free (eqb-false j k e)) (h .blank j)
+
+-- a link is enabled with s at k: what is enabled is s there, or was so before
+module _ (l : List Slot) (k : ℕ) (s : Settings) where
+  filled : (j : ℕ) (r : Settings) → Has (set l k (inUse s)) j r → ((j ≡ k) × (s ≡ r)) ⊎ Has l j r
+  filled j r h = go (has-set l k (inUse s) j r h)
+    where
+      go : ((j ≡ k) × (inUse s ≡ inUse r)) ⊎ Has l j r → ((j ≡ k) × (s ≡ r)) ⊎ Has l j r
+      go (inl x) = inl (x .0, ap (λ (y : Slot). y .settings) (x .1))
+      go (inr y) = inr y
+
+  apart-filled : (meet : Settings → Settings → Bool) → ((p q : Settings) → meet p q ≡ true → meet q p ≡ true)
+      → ((j : ℕ) (r : Settings) → Has l j r → meet r s ≡ false)
+      → Apart meet l → Apart meet (set l k (inUse s))
+  apart-filled meet flip new a i j p q hp hq m = go (filled i p hp) (filled j q hq)
+    where
+      go : ((i ≡ k) × (s ≡ p)) ⊎ Has l i p → ((j ≡ k) × (s ≡ q)) ⊎ Has l j q → i ≡ j
+      go (inl x) (inl y) = x .0 ∙ sym (y .0)
+      go (inl x) (inr y) = clash (flip p q m) (subst (λ (r : Settings). meet q r ≡ false) (x .1) (new j q y))
+      go (inr x) (inl y) = clash m (subst (λ (r : Settings). meet p r ≡ false) (y .1) (new i p x))
+      go (inr x) (inr y) = a i j p q x y m
+
+-- a slot is freed: what is enabled was so before
+freed : (l : List Slot) (k j : ℕ) (s : Settings) → Has (set l k free) j s → Has l j s
+freed l k j s h = go (has-set l k free j s h)
+  where
+    go : ((j ≡ k) × (free ≡ inUse s)) ⊎ Has l j s → Has l j s
+    go (inl x) = free-has-none s (x .1)
+    go (inr y) = y
+
+start-ok : (most own max : ℕ) (tvl dgvl : FixedSettings) → refusal (startRules most own max tvl dgvl) ≡ 0 → startOk most own max tvl dgvl ≡ true
+unfolding startRules
+start-ok most own max tvl dgvl e = not-false (startOk most own max tvl dgvl) (done-exactly (startRules most own max tvl dgvl) (lit< tt, tt) .0 e .0)
+
+module _ (most : ℕ) (memory : List Slot) where
+  start-sound : (own max : ℕ) (tvl dgvl : FixedSettings) → refusal (startRules most own max tvl dgvl) ≡ 0 → max - 1 ≤ length memory → Sound most memory (fresh memory own max tvl dgvl)
+  unfolding fresh midOk
+  start-sound own max tvl dgvl e h =
+      let g = simp and-eq-true-iff at (start-ok most own max tvl dgvl e) in
+      let run = take (max - 1) (cleared (max - 1) memory) in
+      let room : length run ≡ max - 1 = rw (length-take (max - 1) (cleared (max - 1) memory), cleared-length (max - 1) memory) (omega arith) in
+      let empty : (k : ℕ) (s : Settings) → Has run k s → ⊥ = λ k s p. free-has-none s (sym (cleared-blank (max - 1) memory k) ∙ p) in
+      record {
+        own = ltb-true own (2 ^ 48) (g .0 .0 .0 .0);
+        least = leb-true 2 max (g .0 .0 .0 .1);
+        largest = leb-true max most (g .0 .0 .1);
+        tvl = g .0 .1;
+        dgvl = g .1;
+        area = refl;
+        good = λ k s p. absurd (empty k s p);
+        areas = λ j k r s p q m. absurd (empty j r p);
+        prefixes = λ j k r s p q m. absurd (empty j r p);
+        room = room;
+        few = subst (λ (n : ℕ). enabledCount run ≤ n) room (count-within run);
+        blank = λ k p. cleared-blank (max - 1) memory k;
+        rest = cleared-rest (max - 1) memory;
+      }
+
+  enable-sound : (t : Table) (s : Settings) → Sound most memory t → None (rules (counted t) (enable s)) → Sound most memory (withSlot t (place unused (counted t)) (inUse s))
+  unfolding rules slotRules
+  enable-sound t s h n =
+      let l = counted t in
+      let k = place unused l in
+      let u = withSlot t k (inUse s) in
+      let slots = none-right (settingsRules s) (slotRules l s) n in
+      let below : k < length l = ltb-true k (length l) (sym (any-place unused l) ∙ not-false (any unused l) (slots .1 .1 .0)) in
+      let now-is : counted u ≡ set l k (inUse s) = counted-with t k (inUse s) in
+      record {
+        own = h .own;
+        least = h .least;
+        largest = h .largest;
+        tvl = h .tvl;
+        dgvl = h .dgvl;
+        area = h .area;
+        good = λ j r p. go j r (filled l k s j r (subst (λ (m : List Slot). Has m j r) now-is p));
+        areas = subst (Apart sameGround) (sym now-is) (apart-filled l k s sameGround ground-sym (any-none (λ r. sameGround r s) l (slots .0)) (h .areas));
+        prefixes = subst (Apart overlaps) (sym now-is) (apart-filled l k s overlaps overlaps-sym (any-none (λ r. overlaps r s) l (slots .1 .0)) (h .prefixes));
+        room = room-with most memory t h k (inUse s);
+        few = few-with most memory t h k (inUse s);
+        blank = blank-with most memory t h k (inUse s) below (λ e. clash refl e);
+        rest = rest-with most memory t h k (inUse s) below;
+      }
+    where
+      go : (j : ℕ) (r : Settings) → ((j ≡ place unused (counted t)) × (s ≡ r)) ⊎ Has (counted t) j r → refusal (settingsRules r) ≡ 0
+      go j r (inl x) =
+          subst (λ (z : Settings). refusal (settingsRules z) ≡ 0) (x .1)
+          (done-exactly (settingsRules s) (settings-numbered s) .1 (none-left (settingsRules s) (slotRules (counted t) s) n))
+      go j r (inr y) = h .good j r y
+
+  disable-sound : (t : Table) (i : ℕ) → Sound most memory t → None (rules (counted t) (disable i)) → Sound most memory (withSlot t (i - 2) free)
+  unfolding rules
+  disable-sound t i h n =
+      let l = counted t in
+      let k = i - 2 in
+      let on : getD l k free .enabled ≡ true = rw (slot-of-stop l i (ltb-false i 2 (n .0))) at (not-false (slotAt l i .enabled) (n .1 .0)) in
+      let below = enabled-below l k on in
+      let now-is : counted (withSlot t k free) ≡ set l k free = counted-with t k free in
+      let back : (j : ℕ) (s : Settings) → Has (counted (withSlot t k free)) j s → Has l j s =
+      λ j s p. freed l k j s (subst (λ (m : List Slot). Has m j s) now-is p) in
+      record {
+        own = h .own;
+        least = h .least;
+        largest = h .largest;
+        tvl = h .tvl;
+        dgvl = h .dgvl;
+        area = h .area;
+        good = λ j s p. h .good j s (back j s p);
+        areas = λ j m r s p q. h .areas j m r s (back j r p) (back m s q);
+        prefixes = λ j m r s p q. h .prefixes j m r s (back j r p) (back m s q);
+        room = room-with most memory t h k free;
+        few = few-with most memory t h k free;
+        blank = blank-with most memory t h k free below (λ e. refl);
+        rest = rest-with most memory t h k free below;
+      }
+
+  -- another own MID or area of the dynamic link, and nothing else
+  head-sound : (t : Table) (m : ℕ) (a : DynamicArea) → m < 2 ^ 48 → goodDynamic a ≡ true → Sound most memory t
+      → Sound most memory (withArea (withOwn t m) a)
+  head-sound t m a own area h =
+      record {
+        own = own;
+        least = h .least;
+        largest = h .largest;
+        tvl = h .tvl;
+        dgvl = h .dgvl;
+        area = area;
+        good = h .good;
+        areas = h .areas;
+        prefixes = h .prefixes;
+        room = h .room;
+        few = h .few;
+        blank = h .blank;
+        rest = h .rest;
+      }
+
+  after : (t : Table) (c : Call) → Sound most memory t → None (rules (counted t) c) → Sound most memory (tableAfter t c)
+  unfolding tableAfter rules midOk
+  after t (enable s) h n = enable-sound t s h n
+  after t (disable i) h n = disable-sound t i h n
+  after t (setArea a) h n = head-sound t (t .own) a (h .own) (not-false (goodDynamic a) (n .0)) h
+  after t (setOwn m) h n = head-sound t m (t .area) (ltb-true m (2 ^ 48) (not-false (midOk m) (n .0))) (h .area) h
+
+  answered : (n : ℕ) (t : Table) (c : Call) → refusal (rules (counted t) c) ≡ n → Sound most memory t → Sound most memory (answer n t c .table)
+  answered zero t c e h = after t c h (done-exactly (rules (counted t) c) (numbered (counted t) c) .0 e)
+  answered (suc n) t c e h = h
+
+pub sound : {most : ℕ} {memory : List Slot} {t : Table} → Reached most memory t → Sound most memory t
+unfolding reply
+sound {most} {memory} (started own max tvl dgvl e r) = start-sound most memory own max tvl dgvl e r
+sound {most} {memory} (called {t = t} h c) = answered most memory (refusal (rules (counted t) c)) t c refl (sound h)
+
+-- the table that a start by value returns, refused or not
+pub start-reached : (own max : ℕ) (tvl dgvl : FixedSettings) → ByValue (start own max tvl dgvl .table)
+unfolding start startRules midOk interfaceOk
+start-reached own max tvl dgvl = go (refusal (startRules 65 own max tvl dgvl)) refl
+  where
+    go : (n : ℕ) → refusal (startRules 65 own max tvl dgvl) ≡ n → ByValue (begin n (replicate 64 free) own max tvl dgvl .table)
+    go zero e =
+        let g = simp and-eq-true-iff at (start-ok 65 own max tvl dgvl e) in
+        started own max tvl dgvl e (omega (arith, leb-true max 65 (g .0 .0 .1)))
+    go (suc n) e = started 0 2 plain plain refl (lit≤ tt)

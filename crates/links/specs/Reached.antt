@@ -1,0 +1,47 @@
+-- The tables that calls can reach, and what holds of each.
+use Prim.Native.Nat.{ℕ, _-_, _^_, _≤_, _<_}
+use mathlib.Core.Path.{_≡_}
+use mathlib.Core.Bool.{Bool, true, false}
+use mathlib.Core.List.{List}
+use lib.ListN.{length, getD, drop, replicate}
+use Rattle.replies.specs.Rules.{refusal}
+use Rattle.links.specs.declared.FixedSettings.{FixedSettings}
+use Rattle.links.specs.declared.Settings.{Settings}
+use Rattle.links.specs.declared.Slot.{Slot}
+use Rattle.links.specs.declared.Table.{Table}
+use Rattle.links.specs.Settings.{interfaceOk, settingsRules, sameGround, overlaps}
+use Rattle.links.specs.Slots.{Has, free, counted, enabledCount}
+use Rattle.links.specs.Calls.{startRules, fresh, goodDynamic, Call, reply}
+
+-- in a memory of slots, with maxima up to `most`: a start that is not refused, then calls, refused or not
+pub data Reached (most : ℕ) (memory : List Slot) : Table → Type 0 where
+  started : (own max : ℕ) (tvl dgvl : FixedSettings) →
+      refusal (startRules most own max tvl dgvl) ≡ 0 → max - 1 ≤ length memory →
+      Reached most memory (fresh memory own max tvl dgvl)
+  called : {t : Table} → Reached most memory t → (c : Call) → Reached most memory (reply t c .table)
+
+-- a table by value: 64 blank slots, maxima up to 65
+abbrev pub ByValue : Table → Type 0
+ByValue t = Reached 65 (replicate 64 free) t
+
+-- two enabled slots that meet, in one sense or another, are one
+abbrev pub Apart : (Settings → Settings → Bool) → List Slot → Type 0
+Apart meet l = (j k : ℕ) (r s : Settings) → Has l j r → Has l k s → meet r s ≡ true → j ≡ k
+
+pub record Sound (most : ℕ) (memory : List Slot) (t : Table) : Type 0 where
+  pub own : t .own < 2 ^ 48
+  pub least : 2 ≤ t .max
+  pub largest : t .max ≤ most
+  pub tvl : interfaceOk (t .tvl .kind) (t .tvl .flag) ≡ true
+  pub dgvl : interfaceOk (t .dgvl .kind) (t .dgvl .flag) ≡ true
+  pub area : goodDynamic (t .area) ≡ true
+  -- enabled links are good, with pairwise different areas and no overlapping prefixes
+  pub good : (k : ℕ) (s : Settings) → Has (counted t) k s → refusal (settingsRules s) ≡ 0
+  pub areas : Apart sameGround (counted t)
+  pub prefixes : Apart overlaps (counted t)
+  -- there is a slot for each index up to the maximum, so at most maximum - 1 links are enabled
+  pub room : length (counted t) ≡ t .max - 1
+  pub few : enabledCount (counted t) ≤ t .max - 1
+  -- everything else is blank, and the memory past the slots that count is as it was
+  pub blank : (k : ℕ) → getD (counted t) k free .enabled ≡ false → getD (counted t) k free ≡ free
+  pub rest : drop (t .max - 1) (t .slots) ≡ drop (t .max - 1) memory
