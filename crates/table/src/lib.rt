@@ -79,10 +79,8 @@ pub fn disable(t: Table, index: LinkIndex) -> Reply
     if !slot.enabled {
         return without_link(t, replies::NO_SUCH_LINK);
     }
-    without_link(
-        slots::with_slot(t, i - 2, links::blank_slot()),
-        replies::DONE,
-    )
+    let gone = links::blank_slot();
+    without_link(slots::with_slot(t, i - 2, gone), replies::DONE)
 }
 
 pub fn set_dgvl_area(t: Table, a: DynamicArea) -> Reply

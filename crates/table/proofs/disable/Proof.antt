@@ -73,8 +73,8 @@ disable-spec =
     slot-at-requires
     without-link-requires-2
     returns-2
-    sub-with-slot
     blank-slot-requires
+    sub-with-slot
     with-slot-requires
     without-link-requires-3
     returns-3)

@@ -1,0 +1,3 @@
+-- The laws of what arrives and leaves.
+pub mod Found
+pub mod Demand3

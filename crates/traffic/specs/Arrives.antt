@@ -1,0 +1,145 @@
+-- Document 01, What arrives: the refusals of an indication, the choice of its link in four lines, and what is written.
+use Prim.Native.Nat.{ℕ, zero, suc, _+_, _-_, _^_}
+use mathlib.Core.Bool.{Bool, true, false, cond, not, _&&_, _||_}
+use mathlib.Core.List.{List, [], _∷_, _++_}
+use lib.Dec.{eqb, ltb}
+use lib.ListN.{length, getD, drop}
+use Rattle.octets.specs.Digits.{mac}
+use Rattle.replies.specs.Rules.{Rule, _if_, _then_, refusal}
+use Rattle.area.specs.declared.Area.{Area}
+use Rattle.area.specs.Area.{goodArea, sameArea}
+use Rattle.ipv6.specs.Packet.{source, destination, packetRules}
+use Rattle.links.specs.declared.PerhapsLink.{PerhapsLink}
+use Rattle.links.specs.declared.PerhapsLink.the-variants.{Link as Linked, Nothing as NoLink}
+use Rattle.links.specs.declared.Settings.{Settings}
+use Rattle.links.specs.declared.Slot.{Slot}
+use Rattle.links.specs.declared.Table.{Table}
+use Rattle.links.specs.Settings.{midOk, reaches}
+use Rattle.links.specs.Slots.{free, counted, any, place, with}
+use Rattle.links.specs.Calls.{linkOf}
+use Rattle.traffic.specs.declared.Destination.{Destination}
+use Rattle.traffic.specs.declared.Destination.the-variants.{Mid, Within, Nothing}
+use Rattle.traffic.specs.declared.Reception.{Reception}
+
+pub record Indication : Type 0 where
+  pub transport : ℕ
+  pub source : ℕ
+  pub class : ℕ
+  pub destination : Destination
+  pub packet : List ℕ
+
+-- Refusals
+
+-- MID for transport 1, area for 2 and 3, nothing for 4; a MID is in range
+abbrev pub fitting : Destination → ℕ → Bool
+fitting (Mid m) n = eqb n 1 && midOk m
+fitting (Within a) n = eqb n 2 || eqb n 3
+fitting Nothing n = eqb n 4
+
+abbrev pub goodDestination : Destination → Bool
+goodDestination (Mid m) = true
+goodDestination (Within a) = goodArea a
+goodDestination Nothing = true
+
+-- no table stands here: whether an indication is refused is no matter of the table
+unfoldable pub indicationRules : Indication → ℕ → List Rule
+indicationRules x room =
+    1 if not (midOk (x .source) && fitting (x .destination) (x .transport))
+    then 2 if not (goodDestination (x .destination))
+    then packetRules (x .packet)
+    ++ (13 if ltb room (length (x .packet) + 14) then [])
+
+-- The four lines
+
+-- the link of an indication; a stop link by its place and its settings
+pub data Link : Type 0 where
+  topological : Link
+  dynamic : Link
+  stop : ℕ → Settings → Link
+
+-- what looking for an enabled stop link finds
+pub data Found : Type 0 where
+  at : ℕ → Settings → Found
+  nowhere : Found
+
+unfoldable pub stopBy : (Settings → Bool) → List Slot → Found
+stopBy q l = cond (any (with q) l) (at (place (with q) l) (getD l (place (with q) l) free .settings)) nowhere
+
+-- the destination is this area
+abbrev pub isArea : Destination → Area → Bool
+isArea (Mid m) b = false
+isArea (Within a) b = sameArea b a
+isArea Nothing b = false
+
+-- line 2: transport 2 or 3, and an equal area
+unfoldable pub byArea : Indication → Settings → Bool
+byArea x s = (eqb (x .transport) 2 || eqb (x .transport) 3) && isArea (x .destination) (s .area)
+
+-- line 3: transport 1, and the prefix holds the packet's destination; failing that, its source
+unfoldable pub byDestination : Indication → Settings → Bool
+byDestination x s = eqb (x .transport) 1 && reaches s (destination (x .packet))
+
+unfoldable pub bySource : Indication → Settings → Bool
+bySource x s = eqb (x .transport) 1 && reaches s (source (x .packet))
+
+abbrev pub failing : Found → Link → Link
+failing (at k s) l = stop k s
+failing nowhere l = l
+
+unfoldable pub choose : List Slot → Indication → Link
+choose l x =
+    cond (eqb (x .transport) 4) topological
+    (failing (stopBy (byArea x) l)
+    (failing (stopBy (byDestination x) l)
+    (failing (stopBy (bySource x) l)
+    dynamic)))
+
+-- What is written
+
+abbrev pub kindOf : Table → Link → ℕ
+kindOf t topological = t .tvl .kind
+kindOf t dynamic = t .dgvl .kind
+kindOf t (stop k s) = s .kind
+
+abbrev pub indexOf : Link → PerhapsLink
+indexOf topological = Linked (record { 0 = 0 })
+indexOf dynamic = Linked (record { 0 = 1 })
+indexOf (stop k s) = linkOf k
+
+-- the destination MID for transport 1, FF:FF:FF:FF:FF:FF otherwise
+abbrev pub macTo : Destination → ℕ
+macTo (Mid m) = m
+macTo (Within a) = 2 ^ 48 - 1
+macTo Nothing = 2 ^ 48 - 1
+
+-- an Ethernet frame on kind 1, the packet alone on kinds 2 and 3
+unfoldable pub written : ℕ → Indication → List ℕ
+written kind x =
+    cond (eqb kind 1)
+    (mac (macTo (x .destination)) ++ mac (x .source) ++ 0x86 ∷ 0xdd ∷ x .packet)
+    (x .packet)
+
+-- The reply, and the lent buffer after it
+
+pub record Received : Type 0 where
+  pub reply : Reception
+  pub buffer : List ℕ
+
+abbrev pub deliverAs : List ℕ → Indication → List ℕ → Link → Received
+deliverAs w x buffer l = record {
+  reply = record { number = 0; link = indexOf l; length = length w; source = x .source; class = x .class };
+  buffer = w ++ drop (length w) buffer;
+}
+
+abbrev pub deliver : Table → Indication → List ℕ → Link → Received
+deliver t x buffer l = deliverAs (written (kindOf t l) x) x buffer l
+
+abbrev pub refuse : ℕ → List ℕ → Received
+refuse n buffer = record { reply = record { number = n; link = NoLink; length = 0; source = 0; class = 0 }; buffer = buffer }
+
+abbrev pub unless : ℕ → List ℕ → Received → Received
+unless zero buffer r = r
+unless (suc n) buffer r = refuse (suc n) buffer
+
+unfoldable pub receive : Table → Indication → List ℕ → Received
+receive t x buffer = unless (refusal (indicationRules x (length buffer))) buffer (deliver t x buffer (choose (counted t) x))

@@ -1,0 +1,132 @@
+-- Document 01, What leaves: the refusals of a request, what is sent down, and the interface address of a link.
+use Prim.Native.Nat.{ℕ, zero, suc}
+use mathlib.Core.Bool.{Bool, true, false, cond, not, _&&_, _||_}
+use mathlib.Core.List.{List, [], _++_}
+use lib.Dec.{eqb, ltb}
+use lib.ListN.{length, replicate}
+use Rattle.replies.specs.Rules.{Rule, _if_, _then_, refusal}
+use Rattle.area.specs.declared.Area.{Area}
+use Rattle.ipv6.specs.declared.PerhapsMid.{PerhapsMid}
+use Rattle.ipv6.specs.declared.PerhapsMid.the-variants.{Mid as Known, Nothing as Unknown}
+use Rattle.ipv6.specs.Address.{multicast}
+use Rattle.ipv6.specs.Packet.{destination, packetRules}
+use Rattle.ipv6.specs.Identifier.{midOf, linkLocal}
+use Rattle.links.specs.declared.DynamicArea.{DynamicArea}
+use Rattle.links.specs.declared.DynamicArea.the-variants.{Set, Unset}
+use Rattle.links.specs.declared.FixedSettings.{FixedSettings}
+use Rattle.links.specs.declared.Slot.{Slot}
+use Rattle.links.specs.declared.Table.{Table}
+use Rattle.links.specs.Settings.{midOk}
+use Rattle.links.specs.Slots.{counted, slotAt}
+use Rattle.traffic.specs.declared.Destination.{Destination}
+use Rattle.traffic.specs.declared.Destination.the-variants.{Mid, Within, Nothing}
+use Rattle.traffic.specs.declared.Interface.{Interface}
+use Rattle.traffic.specs.declared.Sending.{Sending}
+
+pub record Request : Type 0 where
+  pub index : ℕ
+  pub class : ℕ
+  pub neighbour : PerhapsMid
+  pub packet : List ℕ
+
+-- The link that the request names
+
+-- the fixed links always, a stop link while it is enabled
+unfoldable pub enabledAt : List Slot → ℕ → Bool
+enabledAt l i = ltb i 2 || slotAt l i .enabled
+
+-- its kind and flag
+unfoldable pub interfaceAt : Table → ℕ → FixedSettings
+interfaceAt t i =
+    cond (eqb i 0) (t .tvl)
+    (cond (eqb i 1) (t .dgvl)
+    (record { kind = slotAt (counted t) i .settings .kind; flag = slotAt (counted t) i .settings .flag }))
+
+-- its area: the topological link has none
+unfoldable pub areaAt : Table → ℕ → DynamicArea
+areaAt t i =
+    cond (eqb i 0) Unset
+    (cond (eqb i 1) (t .area)
+    (Set (slotAt (counted t) i .settings .area)))
+
+-- What is sent
+
+-- on kind 3, or with flag 1, the MID comes from the packet's destination; with flag 0 on kinds 1 and 2 it is the MID given
+unfoldable pub neighbourOf : FixedSettings → PerhapsMid → List ℕ → PerhapsMid
+neighbourOf f given packet = cond (eqb (f .kind) 3 || eqb (f .flag) 1) (midOf (destination packet)) given
+
+-- multicast: TSB without destination on the TVL, GeoBroadcast to the link's area on the others
+pub record Down : Type 0 where
+  pub transport : ℕ
+  pub destination : Destination
+
+abbrev pub within : DynamicArea → Destination
+within (Set a) = Within a
+within Unset = Nothing
+
+abbrev pub toNeighbour : PerhapsMid → Destination
+toNeighbour (Known m) = Mid m
+toNeighbour Unknown = Nothing
+
+unfoldable pub down : Table → Request → Down
+down t q =
+    cond (multicast (destination (q .packet)))
+    (cond (eqb (q .index) 0)
+    (record { transport = 4; destination = Nothing })
+    (record { transport = 3; destination = within (areaAt t (q .index)) }))
+    (record { transport = 1; destination = toNeighbour (neighbourOf (interfaceAt t (q .index)) (q .neighbour) (q .packet)) })
+
+-- Refusals
+
+abbrev pub neighbourOk : PerhapsMid → Bool
+neighbourOk (Known m) = midOk m
+neighbourOk Unknown = true
+
+abbrev pub isUnset : DynamicArea → Bool
+isUnset (Set a) = false
+isUnset Unset = true
+
+abbrev pub isUnknown : PerhapsMid → Bool
+isUnknown (Known m) = false
+isUnknown Unknown = true
+
+-- 11: multicast on the DGVL without an area; 12: neighbour not resolvable
+unfoldable pub resolveRules : Table → Request → List Rule
+resolveRules t q =
+    11 if (multicast (destination (q .packet)) && eqb (q .index) 1 && isUnset (t .area))
+    then 12 if (not (multicast (destination (q .packet))) && isUnknown (neighbourOf (interfaceAt t (q .index)) (q .neighbour) (q .packet)))
+    then []
+
+unfoldable pub requestRules : Table → Request → List Rule
+requestRules t q =
+    1 if not (neighbourOk (q .neighbour))
+    then 7 if not (enabledAt (counted t) (q .index))
+    then packetRules (q .packet)
+    ++ resolveRules t q
+
+-- The reply
+
+abbrev pub sending : ℕ → Table → Request → Sending
+sending zero t q = record {
+  number = 0;
+  transport = down t q .transport;
+  destination = down t q .destination;
+  class = q .class;
+  length = length (q .packet);
+}
+sending (suc n) t q = record { number = suc n; transport = 0; destination = Nothing; class = 0; length = 0 }
+
+unfoldable pub send : Table → Request → Sending
+send t q = sending (refusal (requestRules t q)) t q
+
+-- The interface address of an enabled link: the own MID, and fe80::/64 with the identifier built from it
+
+unfoldable pub interfaceRules : Table → ℕ → List Rule
+interfaceRules t i = 7 if not (enabledAt (counted t) i) then []
+
+abbrev pub answerInterface : ℕ → Table → Interface
+answerInterface zero t = record { number = 0; mid = t .own; address = linkLocal (t .own) }
+answerInterface (suc n) t = record { number = suc n; mid = 0; address = replicate 16 0 }
+
+unfoldable pub interface : Table → ℕ → Interface
+interface t i = answerInterface (refusal (interfaceRules t i)) t

@@ -1,0 +1,4 @@
+pub mod Arrives
+pub mod Leaves
+pub mod Demand3
+pub mod Demands
