@@ -1,2 +1,3 @@
 -- The laws of IPv6 that the other crates cite.
 pub mod Identifier
+pub mod Packet

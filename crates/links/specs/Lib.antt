@@ -1,5 +1,6 @@
 pub mod Settings
 pub mod Slots
+pub mod Index
 pub mod Calls
 pub mod Reached
 pub mod Demands

@@ -21,4 +21,10 @@ pub const PACKET_TOO_LONG: u8 = 9;
 
 pub const ADDRESS_NOT_ALLOWED: u8 = 10;
 
+pub const AREA_MISSING: u8 = 11;
+
+pub const NEIGHBOUR_UNKNOWN: u8 = 12;
+
+pub const NO_ROOM: u8 = 13;
+
 pub const FIXED_LINK: u8 = 15;

@@ -1,12 +1,15 @@
 // The slots of a table by value: read one, replace one, and look for one. Every question about the enabled links, and the lowest
 // unused index, is asked of the one loop in `first_place`.
+pub mod index;
+
 use links::LinkIndex;
 use links::Settings;
 use links::Slot;
 use links::Table;
 ghost use mathlib.Core.Path.{_≡_};
 ghost use mathlib.Core.List.{[]};
-ghost use Prim.Native.Nat.{_-_, min};
+ghost use mathlib.Core.Bool.{cond};
+ghost use Prim.Native.Nat.{_+_, _-_, min};
 ghost use Rattle.links.specs.Slots.{counted, slotAt, any, place, unused};
 ghost use Rattle.links.specs.Calls.{withSlot};
 ghost use Rattle.slots.specs.Search.{passes};
@@ -64,6 +67,18 @@ pub fn has(t: Table, wanted: Wanted, s: Settings) -> bool
     ensures { λ r. ⌜ r ≡ any (passes wanted s []) (counted t) ⌝ }
 {
     first_place(t, wanted, s, b"") < slot_count(t.max)
+}
+
+// The index of the first slot that is wanted, or that of the dynamic link.
+pub fn index_or_dynamic(t: Table, wanted: Wanted, s: Settings, address: &[u8]) -> usize
+    ensures { λ r. ⌜ r ≡ cond (any (passes wanted s (now (address .entry))) (counted t)) (place (passes wanted s (now (address .entry))) (counted t) + 2) 1 ⌝ }
+{
+    let k = first_place(t, wanted, s, address);
+    if k < slot_count(t.max) {
+        k + 2
+    } else {
+        LinkIndex::DGVL.0
+    }
 }
 
 // The place of the lowest unused index; the number of slots that count where all are in use.

@@ -1,10 +1,9 @@
 -- Document 01, What arrives: the refusals of an indication, the choice of its link in four lines, and what is written.
 use Prim.Native.Nat.{ℕ, zero, suc, _+_, _-_, _^_}
 use mathlib.Core.Bool.{Bool, true, false, cond, not, _&&_, _||_}
-use mathlib.Core.List.{List, [], _∷_, _++_}
+use mathlib.Core.List.{List, [], _++_}
 use lib.Dec.{eqb, ltb}
 use lib.ListN.{length, getD, drop}
-use Rattle.octets.specs.Digits.{mac}
 use Rattle.replies.specs.Rules.{Rule, _if_, _then_, refusal}
 use Rattle.area.specs.declared.Area.{Area}
 use Rattle.area.specs.Area.{goodArea, sameArea}
@@ -16,7 +15,7 @@ use Rattle.links.specs.declared.Slot.{Slot}
 use Rattle.links.specs.declared.Table.{Table}
 use Rattle.links.specs.Settings.{midOk, reaches}
 use Rattle.links.specs.Slots.{free, counted, any, place, with}
-use Rattle.links.specs.Calls.{linkOf}
+use Rattle.frames.specs.Frame.{frame}
 use Rattle.traffic.specs.declared.Destination.{Destination}
 use Rattle.traffic.specs.declared.Destination.the-variants.{Mid, Within, Nothing}
 use Rattle.traffic.specs.declared.Reception.{Reception}
@@ -27,6 +26,15 @@ pub record Indication : Type 0 where
   pub class : ℕ
   pub destination : Destination
   pub packet : List ℕ
+
+abbrev pub indication : ℕ → ℕ → ℕ → Destination → List ℕ → Indication
+indication transport source class destination packet = record {
+  transport = transport;
+  source = source;
+  class = class;
+  destination = destination;
+  packet = packet;
+}
 
 -- Refusals
 
@@ -101,10 +109,13 @@ kindOf t topological = t .tvl .kind
 kindOf t dynamic = t .dgvl .kind
 kindOf t (stop k s) = s .kind
 
+abbrev pub indexNumber : Link → ℕ
+indexNumber topological = 0
+indexNumber dynamic = 1
+indexNumber (stop k s) = k + 2
+
 abbrev pub indexOf : Link → PerhapsLink
-indexOf topological = Linked (record { 0 = 0 })
-indexOf dynamic = Linked (record { 0 = 1 })
-indexOf (stop k s) = linkOf k
+indexOf l = Linked (record { 0 = indexNumber l })
 
 -- the destination MID for transport 1, FF:FF:FF:FF:FF:FF otherwise
 abbrev pub macTo : Destination → ℕ
@@ -116,7 +127,7 @@ macTo Nothing = 2 ^ 48 - 1
 unfoldable pub written : ℕ → Indication → List ℕ
 written kind x =
     cond (eqb kind 1)
-    (mac (macTo (x .destination)) ++ mac (x .source) ++ 0x86 ∷ 0xdd ∷ x .packet)
+    (frame (macTo (x .destination)) (x .source) (x .packet))
     (x .packet)
 
 -- The reply, and the lent buffer after it

@@ -2,7 +2,7 @@
 use Prim.Native.Nat.{ℕ, zero, suc}
 use mathlib.Core.Bool.{Bool, true, false, cond, not, _&&_, _||_}
 use mathlib.Core.List.{List, [], _++_}
-use lib.Dec.{eqb, ltb}
+use lib.Dec.{eqb}
 use lib.ListN.{length, replicate}
 use Rattle.replies.specs.Rules.{Rule, _if_, _then_, refusal}
 use Rattle.area.specs.declared.Area.{Area}
@@ -14,10 +14,10 @@ use Rattle.ipv6.specs.Identifier.{midOf, linkLocal}
 use Rattle.links.specs.declared.DynamicArea.{DynamicArea}
 use Rattle.links.specs.declared.DynamicArea.the-variants.{Set, Unset}
 use Rattle.links.specs.declared.FixedSettings.{FixedSettings}
-use Rattle.links.specs.declared.Slot.{Slot}
 use Rattle.links.specs.declared.Table.{Table}
 use Rattle.links.specs.Settings.{midOk}
-use Rattle.links.specs.Slots.{counted, slotAt}
+use Rattle.links.specs.Slots.{counted}
+use Rattle.links.specs.Index.{enabledAt, interfaceAt, areaAt}
 use Rattle.traffic.specs.declared.Destination.{Destination}
 use Rattle.traffic.specs.declared.Destination.the-variants.{Mid, Within, Nothing}
 use Rattle.traffic.specs.declared.Interface.{Interface}
@@ -29,25 +29,8 @@ pub record Request : Type 0 where
   pub neighbour : PerhapsMid
   pub packet : List ℕ
 
--- The link that the request names
-
--- the fixed links always, a stop link while it is enabled
-unfoldable pub enabledAt : List Slot → ℕ → Bool
-enabledAt l i = ltb i 2 || slotAt l i .enabled
-
--- its kind and flag
-unfoldable pub interfaceAt : Table → ℕ → FixedSettings
-interfaceAt t i =
-    cond (eqb i 0) (t .tvl)
-    (cond (eqb i 1) (t .dgvl)
-    (record { kind = slotAt (counted t) i .settings .kind; flag = slotAt (counted t) i .settings .flag }))
-
--- its area: the topological link has none
-unfoldable pub areaAt : Table → ℕ → DynamicArea
-areaAt t i =
-    cond (eqb i 0) Unset
-    (cond (eqb i 1) (t .area)
-    (Set (slotAt (counted t) i .settings .area)))
+abbrev pub request : ℕ → ℕ → PerhapsMid → List ℕ → Request
+request index class neighbour packet = record { index = index; class = class; neighbour = neighbour; packet = packet }
 
 -- What is sent
 

@@ -70,3 +70,11 @@ none-right (r ∷ rs) more h = none-right rs more (h .1)
 
 pub exact : (rs : List Rule) → Numbered rs → Exact rs (refusal rs)
 exact rs k = record { number = given-exactly rs; done = done-exactly rs k }
+
+-- what a list of numbered rules answers with 0, the next list decides
+pub refusal-past : (rs more : List Rule) → Numbered rs → refusal rs ≡ 0 → refusal (rs ++ more) ≡ refusal more
+refusal-past rs more k e = refusal-next rs more (done-exactly rs k .0 e)
+
+pub numbered-append : (rs more : List Rule) → Numbered rs → Numbered more → Numbered (rs ++ more)
+numbered-append [] more h k = k
+numbered-append (r ∷ rs) more h k = (h .0, numbered-append rs more (h .1) k)

@@ -1,0 +1,3 @@
+-- Laws of lent buffers.
+pub mod Grow
+pub mod Put
