@@ -34,11 +34,13 @@ pub fn link_of(t: Table, transport: u8, d: Destination, packet: &[u8]) -> usize
     if transport == 1 {
         let slot = links::blank_slot();
         let s = slot.settings;
-        let i = slots::index_or_dynamic(t, Wanted::Reaching, s, ipv6::destination_of(packet));
+        let to = ipv6::destination_of(packet);
+        let from = ipv6::source_of(packet);
+        let i = slots::index_or_dynamic(t, Wanted::Reaching, s, to);
         if i != LinkIndex::DGVL.0 {
             return i;
         }
-        return slots::index_or_dynamic(t, Wanted::Reaching, s, ipv6::source_of(packet));
+        return slots::index_or_dynamic(t, Wanted::Reaching, s, from);
     }
     if !((transport == 2) | (transport == 3)) {
         return LinkIndex::DGVL.0;

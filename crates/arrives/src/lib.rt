@@ -10,7 +10,7 @@ use traffic::Destination;
 use traffic::Reception;
 ghost use mathlib.Core.Path.{_≡_};
 ghost use Rattle.frames.specs.Frame.{put, putLength};
-ghost use Rattle.traffic.specs.Arrives.{indication, macTo, written, receive};
+ghost use Rattle.traffic.specs.Arrives.{indication, macTo, written, Promised};
 
 fn mac_to(d: Destination) -> u64
     ensures { λ r. ⌜ r ≡ macTo d ⌝ }
@@ -32,7 +32,7 @@ fn write(kind: u8, source: u64, d: Destination, packet: &[u8], out: &mut [u8]) -
     frames::write_packet(out, packet)
 }
 
-pub fn indicate(
+pub fn indication(
     t: Table,
     transport: u8,
     source: u64,
@@ -41,7 +41,7 @@ pub fn indicate(
     packet: &[u8],
     out: &mut [u8],
 ) -> Reception
-    ensures { λ r. ⌜ (r ≡ receive t (indication transport source class d (now (packet .entry))) (now (out .entry)) .reply) × (now (out .exit) ≡ receive t (indication transport source class d (now (packet .entry))) (now (out .entry)) .buffer) ⌝ }
+    ensures { λ r. ⌜ Promised t (indication transport source class d (now (packet .entry))) (now (out .entry)) r (now (out .exit)) ⌝ }
 {
     let bad = checks::refusal_of(transport, source, d, packet, out.len());
     if bad != replies::DONE {

@@ -3,3 +3,5 @@ pub mod Found
 pub mod Demand3
 pub mod Choice
 pub mod Receive
+pub mod Send
+pub mod Demands

@@ -1,5 +1,6 @@
 -- Document 01, What arrives: the refusals of an indication, the choice of its link in four lines, and what is written.
 use Prim.Native.Nat.{ℕ, zero, suc, _+_, _-_, _^_}
+use mathlib.Core.Path.{_≡_}
 use mathlib.Core.Bool.{Bool, true, false, cond, not, _&&_, _||_}
 use mathlib.Core.List.{List, [], _++_}
 use lib.Dec.{eqb, ltb}
@@ -154,3 +155,7 @@ unless (suc n) buffer r = refuse (suc n) buffer
 
 unfoldable pub receive : Table → Indication → List ℕ → Received
 receive t x buffer = unless (refusal (indicationRules x (length buffer))) buffer (deliver t x buffer (choose (counted t) x))
+
+-- what a call of the code promises of its reply r and of the buffer b that it leaves
+abbrev pub Promised : Table → Indication → List ℕ → Reception → List ℕ → Type 0
+Promised t x buffer r b = (r ≡ receive t x buffer .reply) × (b ≡ receive t x buffer .buffer)

@@ -11,7 +11,8 @@ use Rattle.links.specs.declared.Table.{Table}
 use Rattle.links.specs.Settings.{Same, reaches}
 use Rattle.links.specs.Slots.{Has, counted}
 use Rattle.links.specs.Reached.{Reached}
-use Rattle.traffic.specs.Arrives.{Indication, Received, topological, dynamic, stop, at, nowhere, stopBy, byDestination, bySource, indexOf, receive}
+use Rattle.traffic.specs.Arrives.{Indication, Received, topological, dynamic, stop, at, nowhere, stopBy, byDestination, bySource, indexOf, receive, Promised}
+use Rattle.traffic.specs.declared.Reception.{Reception}
 
 -- no stop link enabled in the table has these settings
 abbrev pub Lacks : Table → Settings → Type 0
@@ -39,7 +40,7 @@ pub record OnStop (t : Table) (a : Received) (k : ℕ) (s : Settings) : Type 0 w
 -- all but the link's index is the same, byte for byte
 pub record SameButIndex (a b : Received) : Type 0 where
   pub number : a .reply .number ≡ b .reply .number
-  pub length : a .reply .length ≡ b .reply .length
+  pub frameLength : a .reply .length ≡ b .reply .length
   pub source : a .reply .source ≡ b .reply .source
   pub class : a .reply .class ≡ b .reply .class
   pub buffer : a .buffer ≡ b .buffer
@@ -66,3 +67,10 @@ pub data Follows (t u : Table) (x : Indication) (buffer : List ℕ) (a b : Recei
 -- the same indication and equal output buffers
 unfoldable pub Demand3 : Type 0
 Demand3 = (t u : Table) → Wider t u → (x : Indication) (buffer : List ℕ) → Follows t u x buffer (receive t x buffer) (receive u x buffer)
+
+-- of what two calls of the code return, and of the buffers that they leave
+unfoldable pub Demand3OfCalls : Type 0
+Demand3OfCalls =
+    (t u : Table) → Wider t u → (x : Indication) (buffer : List ℕ)
+    → (r₁ r₂ : Reception) (b₁ b₂ : List ℕ) → Promised t x buffer r₁ b₁ → Promised u x buffer r₂ b₂
+    → Follows t u x buffer (record { reply = r₁; buffer = b₁ }) (record { reply = r₂; buffer = b₂ })

@@ -1,2 +1,83 @@
--- Demands 1 and 2 of the mission, for every call of document 01.
+-- Demands 1 and 2 of the mission, for every call of document 01: start, enable, disable, DGVL area and own MID (`links: Demands`),
+-- indication, request and interface address. The last three give back no table: they leave it as it is.
 use Prim.Native.Nat.{ℕ}
+use mathlib.Core.Path.{_≡_}
+use mathlib.Core.Logic.{_≢_}
+use mathlib.Core.Bool.{true, not, _&&_}
+use mathlib.Core.List.{List}
+use lib.Dec.{eqb}
+use lib.ListN.{length, take, drop}
+use Rattle.replies.specs.Rules.{Exact}
+use Rattle.ipv6.specs.Address.{multicast}
+use Rattle.ipv6.specs.Packet.{destination}
+use Rattle.ipv6.specs.Identifier.{linkLocal}
+use Rattle.links.specs.declared.PerhapsLink.the-variants.{Nothing as NoLink}
+use Rattle.links.specs.declared.Slot.{Slot}
+use Rattle.links.specs.declared.Table.{Table}
+use Rattle.links.specs.Slots.{Has, counted}
+use Rattle.links.specs.Index.{enabledAt}
+use Rattle.links.specs.Reached.{Reached}
+use Rattle.links.specs.Demands.{TableDemand1, TableDemand2}
+use Rattle.traffic.specs.Arrives.{Indication, Link, topological, dynamic, stop, choose, kindOf, indexOf, written, indicationRules, receive}
+use Rattle.traffic.specs.Leaves.{Request, requestRules, down, send, interfaceRules, interface}
+
+-- Demand 1
+
+-- an indication: each number exactly under its condition; a refusal gives no link and no length, and leaves the buffer as it was
+pub record RefusesIndication (t : Table) (x : Indication) (buffer : List ℕ) : Type 0 where
+  pub exact : Exact (indicationRules x (length buffer)) (receive t x buffer .reply .number)
+  pub noLink : receive t x buffer .reply .number ≢ 0 → receive t x buffer .reply .link ≡ NoLink
+  pub noLength : receive t x buffer .reply .number ≢ 0 → receive t x buffer .reply .length ≡ 0
+  pub unchanged : receive t x buffer .reply .number ≢ 0 → receive t x buffer .buffer ≡ buffer
+
+-- a request, likewise
+pub record RefusesRequest (t : Table) (q : Request) : Type 0 where
+  pub exact : Exact (requestRules t q) (send t q .number)
+  pub noLength : send t q .number ≢ 0 → send t q .length ≡ 0
+
+unfoldable pub Demand1 : Type 0
+Demand1 =
+    TableDemand1
+    × ((t : Table) (x : Indication) (buffer : List ℕ) → RefusesIndication t x buffer)
+    × ((t : Table) (q : Request) → RefusesRequest t q)
+    × ((t : Table) (i : ℕ) → Exact (interfaceRules t i) (interface t i .number))
+
+-- Demand 2, over reached tables
+
+-- a link of the table: the two fixed ones, and the stop links that are enabled
+abbrev pub IsLink : Table → Link → Type 0
+IsLink t topological = Unit {0}
+IsLink t dynamic = Unit {0}
+IsLink t (stop k s) = Has (counted t) k s
+
+-- an indication that is done: on the link that the four lines choose, its frame or packet, and the rest of the buffer as it was
+pub record Delivers (t : Table) (x : Indication) (buffer : List ℕ) : Type 0 where
+  pub isLink : IsLink t (choose (counted t) x)
+  pub link : receive t x buffer .reply .link ≡ indexOf (choose (counted t) x)
+  pub frameLength : receive t x buffer .reply .length ≡ length (written (kindOf t (choose (counted t) x)) x)
+  pub source : receive t x buffer .reply .source ≡ x .source
+  pub class : receive t x buffer .reply .class ≡ x .class
+  pub front : take (receive t x buffer .reply .length) (receive t x buffer .buffer) ≡ written (kindOf t (choose (counted t) x)) x
+  pub rest : drop (receive t x buffer .reply .length) (receive t x buffer .buffer) ≡ drop (receive t x buffer .reply .length) buffer
+  pub size : length (receive t x buffer .buffer) ≡ length buffer
+
+-- a request that is done: what document 01 sends down, with its class and its packet's length
+pub record Sends (t : Table) (q : Request) : Type 0 where
+  pub enabled : enabledAt (counted t) (q .index) ≡ true
+  pub transport : send t q .transport ≡ down t q .transport
+  pub destination : send t q .destination ≡ down t q .destination
+  pub class : send t q .class ≡ q .class
+  pub packetLength : send t q .length ≡ length (q .packet)
+
+-- the interface address of an enabled link: the own MID, and the address that gives it back
+pub record Addresses (t : Table) (i : ℕ) : Type 0 where
+  pub mid : interface t i .mid ≡ t .own
+  pub address : interface t i .address ≡ linkLocal (t .own)
+
+unfoldable pub Demand2 : Type 0
+Demand2 =
+    TableDemand2
+    × ((most : ℕ) (memory : List Slot) (t : Table) → Reached most memory t →
+    ((x : Indication) (buffer : List ℕ) → receive t x buffer .reply .number ≡ 0 → Delivers t x buffer)
+    × ((q : Request) → send t q .number ≡ 0 → Sends t q)
+    × ((i : ℕ) → interface t i .number ≡ 0 → Addresses t i))

@@ -1,7 +1,7 @@
 -- Demand 3, proved.
 use Prim.Native.Nat.{ℕ, zero, suc}
 use native.Mathlib.Omega.{arith}
-use mathlib.Core.Path.{_≡_, refl, sym, _∙_, ap, subst}
+use mathlib.Core.Path.{_≡_, refl, sym, _∙_, ap, subst, subst₂}
 use mathlib.Core.Bool.{Bool, true, false, cond, _&&_, _||_, and-eq-true-iff}
 use mathlib.Core.List.{List, _++_}
 use lib.Dec.{eqb}
@@ -22,7 +22,7 @@ use Rattle.links.proofs.Laws.Sound.{sound}
 use Rattle.traffic.specs.declared.Destination.{Destination}
 use Rattle.traffic.specs.declared.Destination.the-variants.{Mid, Within, Nothing}
 use Rattle.traffic.specs.Arrives.{Indication, Received, Link, topological, dynamic, stop, Found, at, nowhere, stopBy, isArea, byArea, byDestination, bySource, failing, choose, written, deliverAs, deliver, refuse, unless, indicationRules, receive}
-use Rattle.traffic.specs.Demand3.{Lacks, Wider, OnStop, SameButIndex, PutBySource, Follows, refusesAlike, topologicalStays, stopStays, stopMoves, dynamicStays, dynamicMoves, Demand3}
+use Rattle.traffic.specs.Demand3.{Lacks, Wider, OnStop, SameButIndex, PutBySource, Follows, refusesAlike, topologicalStays, stopStays, stopMoves, dynamicStays, dynamicMoves, Demand3, Demand3OfCalls}
 use Rattle.traffic.proofs.Laws.Found.{found-at, found-nowhere}
 
 -- A test by which line 2 or 3 looks for a link: equal settings answer it alike, and in a sound table one link at most passes it.
@@ -127,7 +127,7 @@ module _ (t u : Table) (w : Wider t u) where
         stopStays j k r s (on-first j r a) (on-second k s b) same
         (record {
           number = refl;
-          length = ap length w;
+          frameLength = ap length w;
           source = refl;
           class = refl;
           buffer = ap (λ (v : List ℕ). v ++ drop (length v) buffer) w;
@@ -175,3 +175,11 @@ module _ (t u : Table) (w : Wider t u) where
 pub demand-3 : Demand3
 unfolding Demand3 receive
 demand-3 t u w x buffer = outcome t u w x buffer (refusal (indicationRules x (length buffer)))
+
+pub demand-3-of-calls : Demand3OfCalls
+unfolding Demand3OfCalls Demand3
+demand-3-of-calls t u w x buffer r₁ r₂ b₁ b₂ p q =
+    subst₂ (Follows t u x buffer)
+    (λ i. record { reply = sym (p .0) i; buffer = sym (p .1) i })
+    (λ i. record { reply = sym (q .0) i; buffer = sym (q .1) i })
+    (demand-3 t u w x buffer)

@@ -29,12 +29,12 @@ index-or-dynamic-requires c κs = search needs
 
 returns-2 : tie.Need-returns-2
 returns-2 c =
-    let l = counted (c .before .before .before .before .before .before .before .before .before .args .t) in
-    let x = (indication (c .before .before .before .before .before .before .before .before .before .args .transport) 0 0 (c .before .before .before .before .before .before .before .before .before .args .d) (c .before .before .before .before .before .before .before .before .before .args .packet .now)) in
-    let found = c .before .before .index-or-dynamic .ensures ∙ ap (λ (a : List ℕ). IndexOr (λ s. reaches s a) l 1) (c .before .before .before .destination-of .ensures) in
+    let l = counted (c .before .before .before .before .before .before .before .before .before .before .args .t) in
+    let x = indication (c .before .before .before .before .before .before .before .before .before .before .args .transport) 0 0 (c .before .before .before .before .before .before .before .before .before .before .args .d) (c .before .before .before .before .before .before .before .before .before .before .args .packet .now) in
+    let found = c .before .before .index-or-dynamic .ensures ∙ ap (λ (a : List ℕ). IndexOr (λ s. reaches s a) l 1) (c .before .before .before .before .destination-of .ensures) in
     found
     ∙ index-kept (λ s. reaches s (destination (x .packet))) l (IndexOr (λ s. reaches s (source (x .packet))) l 1) (λ e. c .if3 .taken (found ∙ e))
-    ∙ sym (index-unicast l x (c .before .before .before .before .before .before .if2 .taken))
+    ∙ sym (index-unicast l x (c .before .before .before .before .before .before .before .if2 .taken))
 
 source-of-requires : tie.Need-source-of-requires
 source-of-requires c κs = search needs
@@ -45,10 +45,11 @@ index-or-dynamic-requires-2 c κs = search needs
 returns-3 : tie.Need-returns-3
 returns-3 c =
     let l = counted (c .before .before .before .before .before .before .before .before .before .before .before .args .t) in
-    let x = (indication (c .before .before .before .before .before .before .before .before .before .before .before .args .transport) 0 0 (c .before .before .before .before .before .before .before .before .before .before .before .args .d) (c .before .before .before .before .before .before .before .before .before .before .before .args .packet .now)) in
-    let found = c .before .before .before .before .index-or-dynamic .ensures ∙ ap (λ (a : List ℕ). IndexOr (λ s. reaches s a) l 1) (c .before .before .before .before .before .destination-of .ensures) in
-    c .index-or-dynamic2 .ensures ∙ ap (λ (a : List ℕ). IndexOr (λ s. reaches s a) l 1) (c .before .source-of .ensures)
-    ∙ index-failing (λ s. reaches s (destination (x .packet))) l (IndexOr (λ s. reaches s (source (x .packet))) l 1) (sym found ∙ c .before .before .if3 .left)
+    let x = indication (c .before .before .before .before .before .before .before .before .before .before .before .args .transport) 0 0 (c .before .before .before .before .before .before .before .before .before .before .before .args .d) (c .before .before .before .before .before .before .before .before .before .before .before .args .packet .now) in
+    let found = c .before .before .before .index-or-dynamic .ensures ∙ ap (λ (a : List ℕ). IndexOr (λ s. reaches s a) l 1) (c .before .before .before .before .before .destination-of .ensures) in
+    c .index-or-dynamic2 .ensures
+    ∙ ap (λ (a : List ℕ). IndexOr (λ s. reaches s a) l 1) (c .before .before .before .before .source-of .ensures)
+    ∙ index-failing (λ s. reaches s (destination (x .packet))) l (IndexOr (λ s. reaches s (source (x .packet))) l 1) (sym found ∙ c .before .if3 .left)
     ∙ sym (index-unicast l x (c .before .before .before .before .before .before .before .before .if2 .taken))
 
 returns-4 : tie.Need-returns-4
@@ -104,9 +105,9 @@ link-of-spec =
     returns
     blank-slot-requires
     destination-of-requires
+    source-of-requires
     index-or-dynamic-requires
     returns-2
-    source-of-requires
     index-or-dynamic-requires-2
     returns-3
     returns-4

@@ -1,4 +1,4 @@
--- `arrives::indicate` meets its contract.
+-- `arrives::indication` meets its contract.
 use Prim.Native.Nat.{ℕ}
 use native.Mathlib.Omega.{arith}
 use mathlib.Core.Path.{_≡_, sym, _∙_, ap}
@@ -15,8 +15,8 @@ use Rattle.traffic.specs.declared.Reception.{Reception}
 use Rattle.traffic.specs.Arrives.{Received, indication, indicationRules, byArea, byDestination, bySource, choose, kindOf, indexNumber, written, deliver}
 use Rattle.traffic.proofs.Laws.Choice.{kind-by-index}
 use Rattle.traffic.proofs.Laws.Receive.{received-refused, received, room-for}
-use Rattle.arrives.proofs.indicate.Statement.{statement}
-use Rattle.arrives.proofs.indicate.Tie as tie
+use Rattle.arrives.proofs.indication.Statement.{statement}
+use Rattle.arrives.proofs.indication.Tie as tie
 
 refusal-of-requires : tie.Need-refusal-of-requires
 refusal-of-requires c κs = search needs
@@ -69,8 +69,8 @@ returns-2 c =
       c .before .before .write .ensures .1 ∙ put-all w out room ∙ ap (λ (v : List ℕ). v ++ drop (length v) out) w-is ∙ sym (ap (λ (r : Received). r .buffer) done),
     )
 
-pub indicate-spec : {M : Type 1} → statement M
-indicate-spec =
+pub indication-spec : {M : Type 1} → statement M
+indication-spec =
     tie.close
     (tie.spec
     refusal-of-requires

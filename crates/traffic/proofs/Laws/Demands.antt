@@ -1,0 +1,159 @@
+-- Demands 1 and 2, proved for every call of document 01.
+use Prim.Native.Nat.{ℕ, zero, suc, _+_, _-_, _≤_}
+use native.Mathlib.Omega.{arith}
+use mathlib.Core.Path.{_≡_, refl, sym, _∙_, ap, subst}
+use mathlib.Core.Logic.{_≢_}
+use mathlib.Core.Bool.{Bool, true, false, cond}
+use mathlib.Core.List.{List, _++_}
+use lib.Dec.{eqb}
+use lib.ListN.{length, take, drop, length-append, length-drop}
+use lib.Seq.{take-append-seam, drop-append-seam}
+use borrow.Author.Tests.{not-false}
+use Rattle.replies.specs.Rules.{refusal, Exact}
+use Rattle.replies.proofs.Laws.Refusals.{exact, done-exactly}
+use Rattle.ipv6.specs.Identifier.{linkLocal}
+use Rattle.links.specs.declared.PerhapsLink.the-variants.{Nothing as NoLink}
+use Rattle.links.specs.declared.Settings.{Settings}
+use Rattle.links.specs.declared.Slot.{Slot}
+use Rattle.links.specs.declared.Table.{Table}
+use Rattle.links.specs.Slots.{Has, counted}
+use Rattle.links.specs.Index.{enabledAt}
+use Rattle.links.proofs.Laws.Demands.{table-demand-1, table-demand-2}
+use Rattle.traffic.specs.declared.Interface.{Interface}
+use Rattle.traffic.specs.declared.Sending.{Sending}
+use Rattle.traffic.specs.Arrives.{Indication, Received, Link, topological, dynamic, stop, Found, at, nowhere, stopBy, byArea, byDestination, bySource, failing, choose, kindOf, written, deliver, refuse, unless, indicationRules, receive}
+use Rattle.traffic.specs.Leaves.{Request, requestRules, sending, send, interfaceRules, answerInterface, interface}
+use Rattle.traffic.specs.Demands.{RefusesIndication, RefusesRequest, Demand1, IsLink, Delivers, Sends, Addresses, Demand2}
+use Rattle.traffic.proofs.Laws.Found.{found-at}
+use Rattle.traffic.proofs.Laws.Receive.{indication-numbered, received, room-for}
+use Rattle.traffic.proofs.Laws.Send.{request-numbered, interface-numbered, send-done}
+
+-- Demand 1
+
+module _ (t : Table) (x : Indication) (buffer : List ℕ) where
+  -- what is answered, by the number of the refusal
+  Given : ℕ → Received
+  Given n = unless n buffer (deliver t x buffer (choose (counted t) x))
+
+  number-given : (n : ℕ) → Given n .reply .number ≡ n
+  unfolding Given
+  number-given zero = refl
+  number-given (suc n) = refl
+
+  refused-given : (n : ℕ) → Given n .reply .number ≢ 0 → Given n ≡ refuse n buffer
+  unfolding Given
+  refused-given zero h = absurd (h refl)
+  refused-given (suc n) h = refl
+
+  refuses-indication : RefusesIndication t x buffer
+  unfolding receive Given
+  refuses-indication =
+      let n = refusal (indicationRules x (length buffer)) in
+      record {
+        exact = subst (Exact (indicationRules x (length buffer))) (sym (number-given n)) (exact (indicationRules x (length buffer)) (indication-numbered x (length buffer)));
+        noLink = λ h. ap (λ (r : Received). r .reply .link) (refused-given n h);
+        noLength = λ h. ap (λ (r : Received). r .reply .length) (refused-given n h);
+        unchanged = λ h. ap (λ (r : Received). r .buffer) (refused-given n h);
+      }
+
+module _ (t : Table) (q : Request) where
+  number-sent : (n : ℕ) → sending n t q .number ≡ n
+  number-sent zero = refl
+  number-sent (suc n) = refl
+
+  none-sent : (n : ℕ) → sending n t q .number ≢ 0 → sending n t q .length ≡ 0
+  none-sent zero h = absurd (h refl)
+  none-sent (suc n) h = refl
+
+  refuses-request : RefusesRequest t q
+  unfolding send
+  refuses-request =
+      let n = refusal (requestRules t q) in
+      record {
+        exact = subst (Exact (requestRules t q)) (sym (number-sent n)) (exact (requestRules t q) (request-numbered t q));
+        noLength = none-sent n;
+      }
+
+number-of-interface : (n : ℕ) (t : Table) → answerInterface n t .number ≡ n
+number-of-interface zero t = refl
+number-of-interface (suc n) t = refl
+
+refuses-interface : (t : Table) (i : ℕ) → Exact (interfaceRules t i) (interface t i .number)
+unfolding interface
+refuses-interface t i = subst (Exact (interfaceRules t i)) (sym (number-of-interface (refusal (interfaceRules t i)) t)) (exact (interfaceRules t i) (interface-numbered t i))
+
+pub demand-1 : Demand1
+unfolding Demand1
+demand-1 = (table-demand-1, refuses-indication, refuses-request, refuses-interface)
+
+-- Demand 2
+
+-- the chosen link is a link of the table
+chosen-link : (t : Table) (x : Indication) → IsLink t (choose (counted t) x)
+unfolding choose
+chosen-link t x = first (eqb (x .transport) 4)
+  where
+    by : (q : Settings → Bool) (k : Link) → IsLink t k → IsLink t (failing (stopBy q (counted t)) k)
+    by q k r = go (stopBy q (counted t)) refl
+      where
+        go : (f : Found) → stopBy q (counted t) ≡ f → IsLink t (failing f k)
+        go (at j s) e = found-at q (counted t) j s e .0
+        go nowhere e = r
+
+    first : (b : Bool) → IsLink t (cond b topological (failing (stopBy (byArea x) (counted t)) (failing (stopBy (byDestination x) (counted t)) (failing (stopBy (bySource x) (counted t)) dynamic))))
+    first true = tt
+    first false = by (byArea x) _ (by (byDestination x) _ (by (bySource x) dynamic tt))
+
+module _ (t : Table) where
+  delivers : (x : Indication) (buffer : List ℕ) → receive t x buffer .reply .number ≡ 0 → Delivers t x buffer
+  unfolding receive Given
+  delivers x buffer e =
+      let good : refusal (indicationRules x (length buffer)) ≡ 0 = sym (number-given t x buffer (refusal (indicationRules x (length buffer)))) ∙ e in
+      let done = received t x buffer good in
+      let kind = kindOf t (choose (counted t) x) in
+      let w = written kind x in
+      let room = room-for x (length buffer) kind good in
+      record {
+        isLink = chosen-link t x;
+        link = ap (λ (r : Received). r .reply .link) done;
+        frameLength = ap (λ (r : Received). r .reply .length) done;
+        source = ap (λ (r : Received). r .reply .source) done;
+        class = ap (λ (r : Received). r .reply .class) done;
+        front = ap (λ (r : Received). take (r .reply .length) (r .buffer)) done ∙ take-append-seam w (drop (length w) buffer);
+        rest =
+            ap (λ (r : Received). drop (r .reply .length) (r .buffer)) done
+            ∙ drop-append-seam w (drop (length w) buffer)
+            ∙ sym (ap (λ (r : Received). drop (r .reply .length) buffer) done);
+        size =
+            ap (λ (r : Received). length (r .buffer)) done
+            ∙ length-append w (drop (length w) buffer)
+            ∙ (let left : length w + length (drop (length w) buffer) ≡ length buffer = omega (arith, length-drop (length w) buffer) in left);
+      }
+
+  sends : (q : Request) → send t q .number ≡ 0 → Sends t q
+  unfolding send requestRules
+  sends q e =
+      let good : refusal (requestRules t q) ≡ 0 = sym (number-sent t q (refusal (requestRules t q))) ∙ e in
+      let none = done-exactly (requestRules t q) (request-numbered t q) .0 good in
+      let done = send-done t q good in
+      record {
+        enabled = not-false (enabledAt (counted t) (q .index)) (none .1 .0);
+        transport = ap (λ (r : Sending). r .transport) done;
+        destination = ap (λ (r : Sending). r .destination) done;
+        class = ap (λ (r : Sending). r .class) done;
+        packetLength = ap (λ (r : Sending). r .length) done;
+      }
+
+  addresses : (i : ℕ) → interface t i .number ≡ 0 → Addresses t i
+  unfolding interface
+  addresses i e =
+      let done : interface t i ≡ record { number = 0; mid = t .own; address = linkLocal (t .own) } =
+      ap (λ (n : ℕ). answerInterface n t) (sym (number-of-interface (refusal (interfaceRules t i)) t) ∙ e) in
+      record {
+        mid = ap (λ (r : Interface). r .mid) done;
+        address = ap (λ (r : Interface). r .address) done;
+      }
+
+pub demand-2 : Demand2
+unfolding Demand2
+demand-2 = (table-demand-2, λ most memory t r. (delivers t, sends t, addresses t))
