@@ -27,4 +27,8 @@ pub const NEIGHBOUR_UNKNOWN: u8 = 12;
 
 pub const NO_ROOM: u8 = 13;
 
+pub const RECORD_BROKEN: u8 = 14;
+
 pub const FIXED_LINK: u8 = 15;
+
+pub const OUT_OF_TURN: u8 = 16;
