@@ -1,0 +1,81 @@
+// Document 01, The day file: prints a header and one line per record of the day file on standard input, up to 65,536 bytes.
+use libc::STDIN_FILENO;
+use libc::STDOUT_FILENO;
+use links::FixedSettings;
+use links::PerhapsLink;
+use links::Table;
+
+fn print(text: &[u8]) -> bool {
+    io::write_all(STDOUT_FILENO, text)
+}
+
+fn print_link(link: PerhapsLink) -> bool {
+    match link {
+        PerhapsLink::Link(index) => io::print_decimal(STDOUT_FILENO, index.0 as u64),
+        PerhapsLink::Nothing => print(&[b'-']),
+    }
+}
+
+fn print_line(line: u64, number: u8, link: PerhapsLink, length: usize) {
+    io::print_decimal(STDOUT_FILENO, line);
+    print(&[b' ']);
+    io::print_decimal(STDOUT_FILENO, number as u64);
+    print(&[b' ']);
+    print_link(link);
+    print(&[b' ']);
+    io::print_decimal(STDOUT_FILENO, length as u64);
+    print(&[b'\n']);
+}
+
+// A box that nobody has started: no call reads its table.
+fn unstarted() -> Table {
+    let plain = FixedSettings { kind: 1, flag: 1 };
+    Table::fresh(0, 2, plain, plain)
+}
+
+// A record has two bytes or more, so that 65,536 turns list every input.
+fn list(input: &[u8]) {
+    let mut started = false;
+    let mut t = unstarted();
+    let mut at: usize = 0;
+    let mut line: u64 = 0;
+    while line < 65_536 && at < input.len() {
+        line += 1;
+        let mut buffer = [0u8; 1294];
+        let s = replay::one_record(started, t, input, at, &mut buffer);
+        let link = s.link;
+        print_line(line, s.number, link, s.length);
+        if s.number == replies::RECORD_BROKEN {
+            return;
+        }
+        let table = s.table;
+        t = table;
+        started = s.started;
+        at = s.next;
+    }
+}
+
+fn main() {
+    print(
+        &[
+            b'r',
+            b'e',
+            b'c',
+            b' ',
+            b'a',
+            b'n',
+            b's',
+            b' ',
+            b'l',
+            b'i',
+            b'n',
+            b'k',
+            b' ',
+            b'n',
+            b'\n',
+        ],
+    );
+    let mut input = io::large_buffer();
+    let n = io::read_full(STDIN_FILENO, &mut input);
+    list(&input[..n]);
+}

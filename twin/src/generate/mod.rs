@@ -1,0 +1,43 @@
+//! The seeded generator of day files. The number of a file decides its theme,
+//! so that every theme comes up in each round of files. Damaged days have a large
+//! share, since each of them can be broken in one place only.
+
+pub mod areas;
+pub mod damage;
+pub mod day;
+pub mod noise;
+pub mod packets;
+pub mod prefixes;
+pub mod random;
+pub mod sizes;
+pub mod themes;
+pub mod values;
+
+use crate::table::LARGEST_MAXIMUM;
+use random::Random;
+
+pub const FILES_OF_A_ROUND: u64 = 26;
+
+/// The file of this number under this seed.
+pub fn day_file(seed: u64, number: u64) -> Vec<u8> {
+    let mut random = Random::for_file(seed, number);
+    match number % FILES_OF_A_ROUND {
+        0 => {
+            let maximum = random.between(2, 8);
+            themes::full_table(random, maximum).into_bytes()
+        }
+        1 => themes::full_table(random, LARGEST_MAXIMUM).into_bytes(),
+        2 => themes::near_areas(random).into_bytes(),
+        3 | 4 => themes::prefix_lengths(random).into_bytes(),
+        5 | 6 => themes::packet_bounds(random).into_bytes(),
+        7 => themes::requests(random).into_bytes(),
+        8 => themes::out_of_range(random).into_bytes(),
+        9 => themes::starts(random).into_bytes(),
+        10 | 11 => themes::mixed(random).into_bytes(),
+        12..=20 => damage::damaged(random),
+        21 => noise::bytes_changed(random),
+        22 => noise::cut_or_shifted(random),
+        23 => noise::formless(random),
+        _ => sizes::around_the_limit(random),
+    }
+}

@@ -1,0 +1,111 @@
+//! Days whose size lies around 65,536 bytes, the most that is read.
+
+use super::day::Day;
+use super::random::Random;
+use super::values;
+use crate::call::Call;
+use crate::listing::MOST_INPUT;
+
+/// One of the ways a day can meet the limit.
+pub fn around_the_limit(random: Random) -> Vec<u8> {
+    let mut day = Day::new(random, 2);
+    day.long = 15;
+    let maximum = values::maximum(&mut day.random, 0);
+    day.good_start(maximum);
+    match day.random.below(8) {
+        0 => fill_to(&mut day, MOST_INPUT - 1),
+        1 => fill_to(&mut day, MOST_INPUT),
+        2 => {
+            // The last record ends one byte past the limit.
+            fill_to(&mut day, MOST_INPUT - 1);
+            day.add(&Call::Disable(7));
+        }
+        3 => more_behind_the_limit(&mut day),
+        4 => return broken_behind_the_limit(day),
+        5 => cut_by_the_limit(&mut day),
+        6 => return number_cut_by_the_limit(day),
+        _ => fill_to(&mut day, 3 * MOST_INPUT),
+    }
+    day.into_bytes()
+}
+
+/// Whole records up to exactly this size.
+fn fill_to(day: &mut Day, size: usize) {
+    // No record of this day is longer than 2,100 bytes.
+    while day.bytes().len() + 2_100 < size {
+        day.any_records(1, &[1, 20, 10, 5, 5, 60, 60]);
+    }
+    day.long = 0;
+    while day.bytes().len() + 150 < size {
+        day.any_records(1, &[1, 20, 10, 5, 5, 60, 60]);
+    }
+    while day.bytes().len() < size {
+        // A disable of two bytes, or of three for an odd rest.
+        let odd = (size - day.bytes().len()) % 2 == 1;
+        let index = if odd { day.random.between(128, 16_383) } else { day.random.below(128) };
+        day.add(&Call::Disable(index));
+    }
+}
+
+fn more_behind_the_limit(day: &mut Day) {
+    fill_to(day, MOST_INPUT);
+    let count = day.random.between(1, 60);
+    day.any_records(count, &[1, 1, 1, 1, 1, 1, 1]);
+}
+
+/// Nothing behind the limit is read, so nothing there is broken either.
+fn broken_behind_the_limit(mut day: Day) -> Vec<u8> {
+    fill_to(&mut day, MOST_INPUT);
+    let count = day.random.pick(&[1, 2, 1_000, 70_000]);
+    let byte = day.random.pick(&[0x00, 0x03, 0x80, 0xFF]);
+    let mut bytes = day.into_bytes();
+    bytes.resize(MOST_INPUT + count, byte);
+    bytes
+}
+
+/// A record that begins before the limit and ends behind it.
+fn cut_by_the_limit(day: &mut Day) {
+    let before = day.random.between(2, 39) as usize;
+    fill_to(day, MOST_INPUT - before);
+    // With a packet of 40 bytes or more either of them is longer than that.
+    day.bad = 0;
+    let kind = day.random.pick(&[6, 7]);
+    day.any_of_kind(kind);
+    let count = day.random.below(5);
+    day.any_records(count, &[1, 1, 1, 1, 1, 1, 1]);
+}
+
+/// The limit cuts a number that would go on behind it.
+fn number_cut_by_the_limit(mut day: Day) -> Vec<u8> {
+    let before = day.random.between(2, 10) as usize;
+    fill_to(&mut day, MOST_INPUT - before);
+    day.add(&Call::OwnMid(u64::MAX));
+    day.add(&Call::OwnMid(1));
+    day.into_bytes()
+}
+
+#[cfg(test)]
+mod tests {
+    use super::*;
+    use crate::listing::lines;
+
+    #[test]
+    fn fills_to_the_very_byte() {
+        for size in [MOST_INPUT - 39, MOST_INPUT - 1, MOST_INPUT, MOST_INPUT + 1] {
+            let mut day = Day::new(Random::new(size as u64), 2);
+            fill_to(&mut day, size);
+            assert_eq!(day.bytes().len(), size);
+        }
+    }
+
+    #[test]
+    fn records_cut_by_the_limit_are_broken() {
+        for seed in 0..20 {
+            let mut day = Day::new(Random::new(seed), 2);
+            cut_by_the_limit(&mut day);
+            assert_eq!(lines(day.bytes()).last().unwrap().answer.reply, 14);
+            let bytes = number_cut_by_the_limit(Day::new(Random::new(seed), 2));
+            assert_eq!(lines(&bytes).last().unwrap().answer.reply, 14);
+        }
+    }
+}

@@ -1,0 +1,109 @@
+//! Which pairs of record kind and reply number a listing can hold, worked out
+//! from document 01, and the count of those that were seen.
+
+use std::collections::BTreeMap;
+
+use crate::call::kind;
+use crate::listing::{Line, RecordKind};
+
+pub type Pair = (RecordKind, u8);
+
+/// The replies of each record kind.
+///
+/// Rules: "Each is given exactly under its condition, first match wins. Enable:
+/// 1, 2, 3, 4, 5, 6. Disable: 15, 7. Indication: 1, 2, 9, 8, 10, 13. Request: 1,
+/// 7, 9, 8, 10, 11, 12" and the column "Given by" of the table of replies (start
+/// and own MID: 1; DGVL area: 2), all in "Replies". Besides, "For each record 14
+/// is tested first, then 16, then the call's own refusals" ("The day file"):
+/// each kind has a number that can be cut (14), can stand before the start, or
+/// is a second start (16), and can be done (0).
+///
+/// Not among them: 13, since 9 comes before it and 1,294 is 1,280 + 14
+/// (READINGS 8). In an indication 1 is left for its MIDs only, since a
+/// transport outside 1..4 is broken and the sort follows from the transport.
+const REPLIES_OF_KIND: [(u64, &[u8]); 7] = [
+    (kind::START, &[0, 1, 14, 16]),
+    (kind::ENABLE, &[0, 1, 2, 3, 4, 5, 6, 14, 16]),
+    (kind::DISABLE, &[0, 7, 14, 15, 16]),
+    (kind::DGVL_AREA, &[0, 2, 14, 16]),
+    (kind::OWN_MID, &[0, 1, 14, 16]),
+    (kind::INDICATION, &[0, 1, 2, 8, 9, 10, 14, 16]),
+    (kind::REQUEST, &[0, 1, 7, 8, 9, 10, 11, 12, 14, 16]),
+];
+
+/// A first number outside 1..7, or one that is no number, can only be broken:
+/// "Broken (14): a record kind outside 1..7, a number overlong, above 2^64 - 1
+/// or cut" ("The day file").
+const ONLY_BROKEN: [RecordKind; 2] = [RecordKind::Unknown, RecordKind::Unreadable];
+
+pub fn allowed_pairs() -> Vec<Pair> {
+    let mut pairs = Vec::new();
+    for (number, replies) in REPLIES_OF_KIND {
+        pairs.extend(replies.iter().map(|&reply| (RecordKind::Known(number), reply)));
+    }
+    pairs.extend(ONLY_BROKEN.map(|kind| (kind, 14)));
+    pairs
+}
+
+pub fn name_of_kind(kind: RecordKind) -> &'static str {
+    match kind {
+        RecordKind::Known(kind::START) => "1 start",
+        RecordKind::Known(kind::ENABLE) => "2 enable",
+        RecordKind::Known(kind::DISABLE) => "3 disable",
+        RecordKind::Known(kind::DGVL_AREA) => "4 DGVL area",
+        RecordKind::Known(kind::OWN_MID) => "5 own MID",
+        RecordKind::Known(kind::INDICATION) => "6 indication",
+        RecordKind::Known(kind::REQUEST) => "7 request",
+        RecordKind::Known(_) | RecordKind::Unknown => "unknown kind",
+        RecordKind::Unreadable => "kind unreadable",
+    }
+}
+
+/// How often each pair was seen.
+#[derive(Default)]
+pub struct Seen(BTreeMap<Pair, u64>);
+
+impl Seen {
+    pub fn add(&mut self, lines: &[Line]) {
+        for line in lines {
+            *self.0.entry((line.kind, line.answer.reply)).or_default() += 1;
+        }
+    }
+
+    pub fn count(&self, pair: Pair) -> u64 {
+        self.0.get(&pair).copied().unwrap_or(0)
+    }
+
+    pub fn records(&self) -> u64 {
+        self.0.values().sum()
+    }
+
+    /// Pairs that document 01 allows in no listing: the twin itself would err.
+    pub fn not_allowed(&self) -> Vec<Pair> {
+        let allowed = allowed_pairs();
+        self.0.keys().copied().filter(|pair| !allowed.contains(pair)).collect()
+    }
+}
+
+#[cfg(test)]
+mod tests {
+    use super::*;
+
+    #[test]
+    fn the_number_of_allowed_pairs() {
+        let pairs = allowed_pairs();
+        assert_eq!(pairs.len(), 4 + 9 + 5 + 4 + 4 + 8 + 10 + 2);
+        assert!(pairs.iter().all(|&(_, reply)| reply != 13));
+    }
+
+    #[test]
+    fn seen_pairs_are_counted() {
+        let mut seen = Seen::default();
+        seen.add(&crate::listing::lines(&[3, 0, 3, 1, 9]));
+        assert_eq!(seen.count((RecordKind::Known(3), 16)), 2);
+        assert_eq!(seen.count((RecordKind::Unknown, 14)), 1);
+        assert_eq!(seen.count((RecordKind::Known(3), 0)), 0);
+        assert_eq!(seen.records(), 3);
+        assert!(seen.not_allowed().is_empty());
+    }
+}

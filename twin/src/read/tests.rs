@@ -1,0 +1,227 @@
+use super::*;
+use crate::numbers::number_bytes;
+
+/// The area of document 01's worked example.
+const AREA_BYTES: [u8; 14] =
+    [0, 0x80, 0xD2, 0x93, 0xAD, 0x03, 0x80, 0xA4, 0xA7, 0xDA, 0x06, 0xF4, 0x03, 0];
+
+fn area_bytes() -> Vec<u8> {
+    let mut bytes = AREA_BYTES.to_vec();
+    bytes.push(0);
+    bytes
+}
+
+fn area() -> Area {
+    Area { shape: 0, latitude: 0, longitude: 0, a: 500, b: 0, angle: 0 }
+}
+
+fn read(bytes: &[u8]) -> Call<'_> {
+    let (call, behind) = read_record(bytes, 0).expect("a whole record");
+    assert_eq!(behind, bytes.len());
+    call
+}
+
+/// Broken at its own offset, with or without whole records before it.
+fn assert_broken(bytes: &[u8]) {
+    assert_eq!(read_record(bytes, 0), Err(Broken), "{bytes:02x?}");
+    let text = crate::listing::listing(&[&[5, 1, 3, 1], bytes].concat());
+    assert!(text.ends_with("\n3 14 - 4\n"), "{text}");
+}
+
+/// Each beginning of a whole record, but the empty one, is broken.
+fn assert_broken_when_cut(whole: &[u8]) {
+    read(whole);
+    for length in 1..whole.len() {
+        assert_broken(&whole[..length]);
+    }
+}
+
+fn enable(prefix: &[u8]) -> Vec<u8> {
+    [&[2], &area_bytes()[..], prefix, &[1, 0]].concat()
+}
+
+fn wide(number: u64) -> Vec<u8> {
+    number_bytes(number)
+}
+
+#[test]
+fn start_records() {
+    let bytes = [1, 0x81, 0x80, 0x80, 0x80, 0x80, 0x40, 65, 1, 0, 2, 1];
+    let expected = StartSettings {
+        own_mid: 0x0200_0000_0001,
+        maximum: 65,
+        tvl: InterfaceNumbers { kind: 1, flag: 0 },
+        dgvl: InterfaceNumbers { kind: 2, flag: 1 },
+    };
+    assert_eq!(read(&bytes), Call::Start(expected));
+    assert_broken_when_cut(&bytes);
+}
+
+#[test]
+fn enable_records() {
+    let bytes = enable(&[12, 0x20, 0x10]);
+    let mut prefix = Prefix { length: 12, bytes: [0; 16] };
+    prefix.bytes[..2].copy_from_slice(&[0x20, 0x10]);
+    let interface = InterfaceNumbers { kind: 1, flag: 0 };
+    let expected = StopSettings { area: area(), prefix, interface };
+    assert_eq!(read(&bytes), Call::Enable(expected));
+    assert_broken_when_cut(&bytes);
+    assert_broken_when_cut(&enable(&[0]));
+    let longest = [&[0x80, 0x01][..], &[7; 16]].concat();
+    assert_broken_when_cut(&enable(&longest));
+}
+
+#[test]
+fn a_prefix_length_above_128() {
+    for length in [129, 130, 136, 255, 256, 320, u64::MAX] {
+        let prefix = [wide(length), vec![0; 40]].concat();
+        assert_broken(&enable(&prefix));
+    }
+}
+
+#[test]
+fn a_bit_past_the_length_is_not_broken() {
+    let bytes = enable(&[9, 0x20, 0x01]);
+    assert!(matches!(read(&bytes), Call::Enable(settings) if !settings.prefix.is_good()));
+}
+
+#[test]
+fn disable_and_own_mid_records() {
+    assert_eq!(read(&[3, 9]), Call::Disable(9));
+    assert_eq!(read(&[5, 0x80, 0x01]), Call::OwnMid(128));
+    for kind in [3, 5] {
+        for number in [0, u64::MAX] {
+            assert_broken_when_cut(&[vec![kind], wide(number)].concat());
+        }
+    }
+}
+
+#[test]
+fn dgvl_area_records() {
+    let bytes = [&[4, 1], &area_bytes()[..]].concat();
+    assert_eq!(read(&bytes), Call::DgvlArea(Some(area())));
+    assert_eq!(read(&[4, 0]), Call::DgvlArea(None));
+    assert_broken_when_cut(&bytes);
+    for choice in [2, 127, 256, 257, u64::MAX] {
+        assert_broken(&[vec![4], wide(choice), area_bytes()].concat());
+    }
+}
+
+#[test]
+fn area_numbers_of_any_size_are_whole() {
+    for place in 0..6 {
+        let mut numbers = [1u64, 900_000_000, 1_800_000_000, 5, 6, 7];
+        numbers[place] = u64::MAX;
+        let mut bytes = vec![4, 1];
+        numbers.iter().for_each(|&number| bytes.extend(wide(number)));
+        assert!(matches!(read(&bytes), Call::DgvlArea(Some(area)) if !area.is_good()));
+    }
+    let lowest = [4, 1, 0, 0, 0, 1, 0, 0];
+    let expected = Area { latitude: -900_000_000, longitude: -1_800_000_000, a: 1, ..area() };
+    assert_eq!(read(&lowest), Call::DgvlArea(Some(expected)));
+}
+
+#[test]
+fn indication_records_of_each_transport() {
+    let packet = [9, 8, 7];
+    let head = |transport: u8| vec![6, transport, 3, 0xFF, 0x01];
+    let tail = [3, 9, 8, 7];
+    for (transport, destination, bytes) in [
+        (1, Destination::Mid(11), vec![11]),
+        (2, Destination::Area(area()), area_bytes()),
+        (3, Destination::Area(area()), area_bytes()),
+        (4, Destination::Nothing, vec![]),
+    ] {
+        let record = [&head(transport), &bytes, &tail[..]].concat();
+        let transport = transport.into();
+        let expected =
+            Indication { transport, source: 3, class: 255, destination, packet: &packet };
+        assert_eq!(read(&record), Call::Indication(expected));
+        assert_broken_when_cut(&record);
+    }
+}
+
+#[test]
+fn a_transport_outside_1_to_4() {
+    for transport in [0, 5, 6, 255, 256, 257, 260, u64::MAX] {
+        assert_broken(&[vec![6], wide(transport), vec![3, 0, 0, 0, 0, 0, 0, 0, 0]].concat());
+    }
+}
+
+#[test]
+fn a_class_above_255() {
+    for class in [256, 257, 511, 65_536, u64::MAX] {
+        assert_broken(&[vec![6, 4, 3], wide(class), vec![0]].concat());
+        assert_broken(&[vec![7, 0], wide(class), vec![0, 0]].concat());
+    }
+}
+
+#[test]
+fn request_records() {
+    let with = [7, 2, 0x80, 0x01, 1, 9, 2, 0xAA, 0xBB];
+    let packet = [0xAA, 0xBB];
+    let expected = Request { index: 2, class: 128, neighbour: Some(9), packet: &packet };
+    assert_eq!(read(&with), Call::Request(expected));
+    let without = [7, 2, 0x80, 0x01, 0, 2, 0xAA, 0xBB];
+    assert_eq!(read(&without), Call::Request(Request { neighbour: None, ..expected }));
+    assert_broken_when_cut(&with);
+    assert_broken_when_cut(&without);
+    for choice in [2, 256, 257, u64::MAX] {
+        assert_broken(&[vec![7, 2, 0], wide(choice), vec![9, 0, 0, 0]].concat());
+    }
+}
+
+#[test]
+fn a_packet_length_beyond_the_end() {
+    for length in [3, 128, 1_280, 1 << 32, 1 << 63, u64::MAX] {
+        assert_broken(&[vec![6, 4, 3, 0], wide(length), vec![1, 2]].concat());
+        assert_broken(&[vec![7, 0, 0, 0], wide(length), vec![1, 2]].concat());
+    }
+}
+
+#[test]
+fn a_packet_above_1280_bytes_is_a_whole_record() {
+    let bytes = [vec![7, 0, 0, 0], wide(5_000), vec![1; 5_000]].concat();
+    assert!(matches!(read(&bytes), Call::Request(request) if request.packet.len() == 5_000));
+}
+
+#[test]
+fn record_kinds_outside_1_to_7() {
+    for kind in [0, 8, 9, 127, 128, 257, 263, 1 << 32 | 3, u64::MAX] {
+        assert_broken(&[wide(kind), vec![1; 60]].concat());
+    }
+}
+
+#[test]
+fn overlong_too_large_and_cut_numbers_in_the_kind() {
+    assert_broken(&[0x83, 0x00, 0x01]);
+    assert_broken(&[0x83, 0x80, 0x00, 0x01]);
+    assert_broken(&[0x83]);
+    assert_broken(&[vec![0x83], vec![0x80; 8], vec![0x02, 0x01]].concat());
+    assert_broken(&[0xFF; 30]);
+}
+
+#[test]
+fn overlong_and_too_large_numbers_in_a_value() {
+    assert_broken(&[3, 0x80, 0x00]);
+    assert_broken(&[5, 0xFF, 0x80, 0x00]);
+    let too_large = [vec![0xFF; 9], vec![0x02]].concat();
+    assert_broken(&[vec![5], too_large.clone()].concat());
+    assert_broken(&[vec![6, 4, 3, 0], too_large, vec![0; 9]].concat());
+    assert_broken(&[6, 4, 3, 0, 0x81, 0x00, 0]);
+}
+
+#[test]
+fn an_offset_at_or_behind_the_end_is_broken() {
+    assert_eq!(read_record(&[3, 1], 2), Err(Broken));
+    assert_eq!(read_record(&[3, 1], usize::MAX), Err(Broken));
+    assert_eq!(read_record(&[], 0), Err(Broken));
+}
+
+#[test]
+fn records_follow_each_other() {
+    let bytes = [3, 1, 5, 0x80, 1, 4, 0];
+    assert_eq!(read_record(&bytes, 0), Ok((Call::Disable(1), 2)));
+    assert_eq!(read_record(&bytes, 2), Ok((Call::OwnMid(128), 5)));
+    assert_eq!(read_record(&bytes, 5), Ok((Call::DgvlArea(None), 7)));
+}

@@ -1,0 +1,166 @@
+//! The virtual-link table and the calls that change it (document 01,
+//! "Virtual links"; the order of refusals is that of "Replies").
+
+use std::collections::BTreeMap;
+
+use crate::area::Area;
+use crate::link::{Interface, InterfaceNumbers, Kind};
+use crate::mid::{check_mid, link_local_address};
+use crate::packet::Address;
+use crate::prefix::Prefix;
+use crate::reply::Refusal;
+
+/// "The two fixed links bear index 0 and 1 always."
+pub const TVL: u64 = 0;
+pub const DGVL: u64 = 1;
+pub const FIRST_STOP: u64 = 2;
+
+pub const SMALLEST_MAXIMUM: u64 = 2;
+pub const LARGEST_MAXIMUM: u64 = 65;
+
+/// What a start gives: the fixed links' kinds and flags among it.
+#[derive(Clone, Copy, Debug, PartialEq, Eq)]
+pub struct StartSettings {
+    pub own_mid: u64,
+    pub maximum: u64,
+    pub tvl: InterfaceNumbers,
+    pub dgvl: InterfaceNumbers,
+}
+
+/// What an enable gives, good or bad.
+#[derive(Clone, Copy, Debug, PartialEq, Eq)]
+pub struct StopSettings {
+    pub area: Area,
+    pub prefix: Prefix,
+    pub interface: InterfaceNumbers,
+}
+
+/// An enabled stop link (SGVL).
+#[derive(Clone, Copy, Debug, PartialEq, Eq)]
+pub struct Stop {
+    pub area: Area,
+    pub prefix: Prefix,
+    pub interface: Interface,
+}
+
+/// The interface address of an enabled link.
+#[derive(Clone, Copy, Debug, PartialEq, Eq)]
+pub struct InterfaceAddress {
+    pub mid: u64,
+    pub address: Address,
+}
+
+#[derive(Clone, Debug, PartialEq, Eq)]
+pub struct Table {
+    pub own_mid: u64,
+    pub maximum: u64,
+    pub tvl: Interface,
+    pub dgvl: Interface,
+    pub dgvl_area: Option<Area>,
+    /// The enabled stop links by index.
+    pub stops: BTreeMap<u64, Stop>,
+}
+
+impl Table {
+    /// A refused start returns its number and the table for own MID 0,
+    /// maximum 2, fixed links of kind 1 and flag 1.
+    pub fn start(settings: &StartSettings) -> (Result<(), Refusal>, Table) {
+        match Table::try_start(settings) {
+            Ok(table) => (Ok(()), table),
+            Err(refusal) => (Err(refusal), Table::after_refused_start()),
+        }
+    }
+
+    fn try_start(settings: &StartSettings) -> Result<Table, Refusal> {
+        check_mid(settings.own_mid)?;
+        if !(SMALLEST_MAXIMUM..=LARGEST_MAXIMUM).contains(&settings.maximum) {
+            return Err(Refusal::ValueOutsideItsList);
+        }
+        let (tvl, dgvl) = (settings.tvl.check()?, settings.dgvl.check()?);
+        Ok(Table::fresh(settings.own_mid, settings.maximum, tvl, dgvl))
+    }
+
+    fn after_refused_start() -> Table {
+        let lan = Interface { kind: Kind::EthernetLan, resolve: true };
+        Table::fresh(0, SMALLEST_MAXIMUM, lan, lan)
+    }
+
+    fn fresh(own_mid: u64, maximum: u64, tvl: Interface, dgvl: Interface) -> Table {
+        Table { own_mid, maximum, tvl, dgvl, dgvl_area: None, stops: BTreeMap::new() }
+    }
+
+    /// Enable: 1, 2, 3, 4, 5, 6. The answer is the new link's index.
+    pub fn enable(&mut self, settings: &StopSettings) -> Result<u64, Refusal> {
+        let interface = settings.interface.check()?;
+        if !settings.area.is_good() {
+            return Err(Refusal::AreaNotGood);
+        }
+        if !settings.prefix.is_good() {
+            return Err(Refusal::PrefixNotGood);
+        }
+        // Only enabled stop links are asked, not the DGVL (READINGS 20).
+        if self.stops.values().any(|stop| stop.area == settings.area) {
+            return Err(Refusal::AreaEqualToAStops);
+        }
+        if self.stops.values().any(|stop| stop.prefix.overlaps(&settings.prefix)) {
+            return Err(Refusal::PrefixOverlapsAStops);
+        }
+        let index = self.lowest_unused_index().ok_or(Refusal::NoIndexFree)?;
+        let stop = Stop { area: settings.area, prefix: settings.prefix, interface };
+        self.stops.insert(index, stop);
+        Ok(index)
+    }
+
+    fn lowest_unused_index(&self) -> Option<u64> {
+        (FIRST_STOP..=self.maximum).find(|index| !self.stops.contains_key(index))
+    }
+
+    /// Disable: 15, 7.
+    pub fn disable(&mut self, index: u64) -> Result<(), Refusal> {
+        if index == TVL || index == DGVL {
+            return Err(Refusal::IndexOfFixedLink);
+        }
+        match self.stops.remove(&index) {
+            Some(_) => Ok(()),
+            None => Err(Refusal::NoEnabledLink),
+        }
+    }
+
+    /// "The DGVL's area may be set, changed or cleared": 2.
+    pub fn set_dgvl_area(&mut self, area: Option<Area>) -> Result<(), Refusal> {
+        if area.is_some_and(|area| !area.is_good()) {
+            return Err(Refusal::AreaNotGood);
+        }
+        self.dgvl_area = area;
+        Ok(())
+    }
+
+    /// Changes the MAC address of every interface "and nothing else": 1.
+    pub fn set_own_mid(&mut self, mid: u64) -> Result<(), Refusal> {
+        check_mid(mid)?;
+        self.own_mid = mid;
+        Ok(())
+    }
+
+    /// The kind and flag of an enabled link; 0 and 1 always are (READINGS 28).
+    pub fn interface(&self, index: u64) -> Result<Interface, Refusal> {
+        match index {
+            TVL => Ok(self.tvl),
+            DGVL => Ok(self.dgvl),
+            _ => {
+                let stop = self.stops.get(&index).ok_or(Refusal::NoEnabledLink)?;
+                Ok(stop.interface)
+            }
+        }
+    }
+
+    /// "Own MID and fe80::/64 with the identifier built the other way": 7.
+    pub fn interface_address(&self, index: u64) -> Result<InterfaceAddress, Refusal> {
+        self.interface(index)?;
+        let address = link_local_address(self.own_mid);
+        Ok(InterfaceAddress { mid: self.own_mid, address })
+    }
+}
+
+#[cfg(test)]
+mod tests;

@@ -1,0 +1,224 @@
+use super::*;
+use crate::area::{CIRCLE, RECTANGLE};
+use crate::mid::LARGEST_MID;
+use crate::prefix::NO_PREFIX;
+use crate::reply::Refusal::*;
+
+const LAN: InterfaceNumbers = InterfaceNumbers { kind: 1, flag: 1 };
+const BAD_LINK: InterfaceNumbers = InterfaceNumbers { kind: 4, flag: 1 };
+
+const START: StartSettings =
+    StartSettings { own_mid: 0x0200_0000_0001, maximum: 65, tvl: LAN, dgvl: LAN };
+
+fn table(maximum: u64) -> Table {
+    let (answer, table) = Table::start(&StartSettings { maximum, ..START });
+    assert_eq!(answer, Ok(()));
+    table
+}
+
+fn area(latitude: i128) -> Area {
+    Area { shape: RECTANGLE, latitude, longitude: 0, a: 10, b: 20, angle: 30 }
+}
+
+fn prefix(first: u8, second: u8, length: u64) -> Prefix {
+    let mut bytes = [0; 16];
+    bytes[0] = first;
+    bytes[1] = second;
+    Prefix { length, bytes }
+}
+
+fn stop(latitude: i128, prefix: Prefix) -> StopSettings {
+    StopSettings { area: area(latitude), prefix, interface: LAN }
+}
+
+/// The call is refused with this number and leaves the table as it was.
+fn assert_enable_refused(table: &mut Table, settings: &StopSettings, refusal: Refusal) {
+    let before = table.clone();
+    assert_eq!(table.enable(settings), Err(refusal));
+    assert_eq!(*table, before);
+}
+
+#[test]
+fn a_fresh_table() {
+    let (answer, table) =
+        Table::start(&StartSettings { dgvl: InterfaceNumbers { kind: 3, flag: 0 }, ..START });
+    assert_eq!(answer, Ok(()));
+    assert_eq!(table.own_mid, 0x0200_0000_0001);
+    assert_eq!(table.tvl, Interface { kind: Kind::EthernetLan, resolve: true });
+    assert_eq!(table.dgvl, Interface { kind: Kind::PointToPoint, resolve: false });
+    assert_eq!((table.dgvl_area, table.stops.len()), (None, 0));
+}
+
+#[test]
+fn maximum_1_and_66_are_refused_2_and_65_are_good() {
+    for maximum in [0, 1, 66, 258, u64::MAX] {
+        let (answer, _) = Table::start(&StartSettings { maximum, ..START });
+        assert_eq!(answer, Err(ValueOutsideItsList));
+    }
+    for maximum in [2, 65] {
+        assert_eq!(table(maximum).maximum, maximum);
+    }
+}
+
+#[test]
+fn a_refused_start_returns_the_named_table() {
+    for refused in [
+        StartSettings { own_mid: LARGEST_MID + 1, ..START },
+        StartSettings { maximum: 66, ..START },
+        StartSettings { tvl: BAD_LINK, ..START },
+        StartSettings { dgvl: InterfaceNumbers { kind: 1, flag: 2 }, ..START },
+    ] {
+        let (answer, table) = Table::start(&refused);
+        let named = StartSettings { own_mid: 0, maximum: 2, tvl: LAN, dgvl: LAN };
+        assert_eq!(answer, Err(ValueOutsideItsList));
+        assert_eq!(table, Table::start(&named).1);
+    }
+}
+
+#[test]
+fn refusals_of_enable_come_in_order() {
+    let mut table = table(2);
+    let first = stop(0, prefix(0x20, 0, 8));
+    assert_eq!(table.enable(&first), Ok(2));
+
+    // Each settings has every later fault too; the table is full as well.
+    let overlapping = stop(1, prefix(0x20, 0x80, 9));
+    let equal = StopSettings { area: area(0), ..overlapping };
+    let bad_prefix = StopSettings { prefix: prefix(0xFF, 0, 8), ..equal };
+    let bad_area = StopSettings { area: Area { a: 0, ..area(0) }, ..bad_prefix };
+    let bad_kind = StopSettings { interface: BAD_LINK, ..bad_area };
+    assert_enable_refused(&mut table, &bad_kind, ValueOutsideItsList);
+    assert_enable_refused(&mut table, &bad_area, AreaNotGood);
+    assert_enable_refused(&mut table, &bad_prefix, PrefixNotGood);
+    assert_enable_refused(&mut table, &equal, AreaEqualToAStops);
+    assert_enable_refused(&mut table, &overlapping, PrefixOverlapsAStops);
+    assert_enable_refused(&mut table, &stop(1, prefix(0x21, 0, 8)), NoIndexFree);
+}
+
+#[test]
+fn each_refusal_of_enable_alone() {
+    let mut table = table(65);
+    assert_eq!(table.enable(&stop(0, prefix(0x20, 0, 8))), Ok(2));
+    let good = stop(1, prefix(0x21, 0, 8));
+    let bad_flag = InterfaceNumbers { kind: 1, flag: 2 };
+    let long_prefix = Prefix { length: 129, bytes: [0; 16] };
+    for (settings, refusal) in [
+        (StopSettings { interface: BAD_LINK, ..good }, ValueOutsideItsList),
+        (StopSettings { interface: bad_flag, ..good }, ValueOutsideItsList),
+        (StopSettings { area: Area { angle: 360, ..area(1) }, ..good }, AreaNotGood),
+        (StopSettings { prefix: long_prefix, ..good }, PrefixNotGood),
+        (StopSettings { prefix: prefix(0x21, 1, 8), ..good }, PrefixNotGood),
+        (StopSettings { area: area(0), ..good }, AreaEqualToAStops),
+        (StopSettings { prefix: prefix(0x20, 0, 7), ..good }, PrefixOverlapsAStops),
+        (StopSettings { prefix: prefix(0x20, 0, 8), ..good }, PrefixOverlapsAStops),
+        (StopSettings { prefix: prefix(0x20, 1, 16), ..good }, PrefixOverlapsAStops),
+    ] {
+        assert_enable_refused(&mut table, &settings, refusal);
+    }
+    assert_eq!(table.enable(&good), Ok(3));
+}
+
+#[test]
+fn a_stop_may_have_the_area_of_the_dgvl() {
+    let mut table = table(3);
+    assert_eq!(table.set_dgvl_area(Some(area(0))), Ok(()));
+    assert_eq!(table.enable(&stop(0, NO_PREFIX)), Ok(2));
+    assert_eq!(table.set_dgvl_area(Some(area(0))), Ok(()));
+}
+
+#[test]
+fn the_next_enabled_gets_the_lowest_unused_index() {
+    let mut table = table(65);
+    for index in 2..=4 {
+        assert_eq!(table.enable(&stop(index.into(), NO_PREFIX)), Ok(index));
+    }
+    assert_eq!(table.disable(3), Ok(()));
+    assert_eq!(table.enable(&stop(100, NO_PREFIX)), Ok(3));
+    assert_eq!(table.enable(&stop(101, NO_PREFIX)), Ok(5));
+    assert_eq!(table.disable(2), Ok(()));
+    assert_eq!(table.disable(5), Ok(()));
+    assert_eq!(table.enable(&stop(102, NO_PREFIX)), Ok(2));
+    assert_eq!(table.enable(&stop(103, NO_PREFIX)), Ok(5));
+}
+
+#[test]
+fn at_most_maximum_minus_1_are_enabled() {
+    for maximum in [2, 3, 64, 65] {
+        let mut table = table(maximum);
+        for index in 2..=maximum {
+            assert_eq!(table.enable(&stop(index.into(), NO_PREFIX)), Ok(index));
+        }
+        assert_eq!(table.stops.len() as u64, maximum - 1);
+        assert_enable_refused(&mut table, &stop(900, NO_PREFIX), NoIndexFree);
+        assert_eq!(table.disable(maximum), Ok(()));
+        assert_eq!(table.enable(&stop(900, NO_PREFIX)), Ok(maximum));
+    }
+}
+
+#[test]
+fn disable_answers_15_before_7_and_changes_nothing() {
+    let mut table = table(65);
+    assert_eq!(table.enable(&stop(0, NO_PREFIX)), Ok(2));
+    let before = table.clone();
+    for index in [0, 1] {
+        assert_eq!(table.disable(index), Err(IndexOfFixedLink));
+    }
+    for index in [3, 65, 66, 256, 258, u64::MAX] {
+        assert_eq!(table.disable(index), Err(NoEnabledLink));
+    }
+    assert_eq!(table, before);
+    assert_eq!(table.disable(2), Ok(()));
+    assert_eq!(table.disable(2), Err(NoEnabledLink));
+}
+
+#[test]
+fn a_disabled_stop_no_longer_counts() {
+    let mut table = table(2);
+    let settings = stop(0, prefix(0x20, 0, 8));
+    assert_eq!(table.enable(&settings), Ok(2));
+    assert_eq!(table.disable(2), Ok(()));
+    assert_eq!(table.enable(&settings), Ok(2));
+}
+
+#[test]
+fn the_dgvl_area_is_set_changed_and_cleared() {
+    let mut table = table(2);
+    let circle = Area { shape: CIRCLE, b: 0, ..area(1) };
+    for wanted in [Some(area(0)), Some(circle), None, None] {
+        assert_eq!(table.set_dgvl_area(wanted), Ok(()));
+        assert_eq!(table.dgvl_area, wanted);
+    }
+    assert_eq!(table.set_dgvl_area(Some(circle)), Ok(()));
+    let bad = Area { a: 65_536, ..circle };
+    assert_eq!(table.set_dgvl_area(Some(bad)), Err(AreaNotGood));
+    assert_eq!(table.dgvl_area, Some(circle));
+}
+
+#[test]
+fn the_own_mid_changes_and_nothing_else() {
+    let mut changed = table(5);
+    changed.enable(&stop(0, NO_PREFIX)).unwrap();
+    let before = changed.clone();
+    assert_eq!(changed.set_own_mid(LARGEST_MID), Ok(()));
+    assert_eq!(changed, Table { own_mid: LARGEST_MID, ..before });
+    let before = changed.clone();
+    assert_eq!(changed.set_own_mid(LARGEST_MID + 1), Err(ValueOutsideItsList));
+    assert_eq!(changed, before);
+}
+
+#[test]
+fn the_interface_address() {
+    let mut table = table(65);
+    table.enable(&stop(0, NO_PREFIX)).unwrap();
+    let address = link_local_address(0x0200_0000_0001);
+    for index in 0..=2 {
+        let expected = InterfaceAddress { mid: 0x0200_0000_0001, address };
+        assert_eq!(table.interface_address(index), Ok(expected));
+    }
+    for index in [3, 65, 66, 256, u64::MAX] {
+        assert_eq!(table.interface_address(index), Err(NoEnabledLink));
+    }
+    table.set_own_mid(7).unwrap();
+    let changed = table.interface_address(2).unwrap();
+    assert_eq!((changed.mid, changed.address), (7, link_local_address(7)));
+}

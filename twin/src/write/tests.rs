@@ -1,0 +1,163 @@
+use super::*;
+use crate::call::{GEO_ANYCAST, GEO_BROADCAST, GEO_UNICAST, TSB};
+use crate::prefix::NO_PREFIX;
+use crate::read::read_record;
+use crate::table::{StartSettings, StopSettings};
+
+const AREA: Area = Area { shape: 1, latitude: -7, longitude: 8, a: 9, b: 10, angle: 11 };
+const WIDE: InterfaceNumbers = InterfaceNumbers { kind: u64::MAX, flag: 2 };
+const LAN: InterfaceNumbers = InterfaceNumbers { kind: 1, flag: 1 };
+const STOP: StopSettings = StopSettings { area: AREA, prefix: NO_PREFIX, interface: LAN };
+
+const UNICAST: Indication<'static> = Indication {
+    transport: GEO_UNICAST,
+    source: 1,
+    class: 2,
+    destination: Destination::Mid(3),
+    packet: &[4, 5],
+};
+
+fn to_area(transport: u64, area: Area) -> Indication<'static> {
+    Indication { transport, destination: Destination::Area(area), ..UNICAST }
+}
+
+fn tsb() -> Indication<'static> {
+    Indication { transport: TSB, destination: Destination::Nothing, ..UNICAST }
+}
+
+fn assert_reads_back(call: Call) {
+    let mut buffer = [0xEE; 200];
+    let length = write_record(&call, &mut buffer).unwrap();
+    assert_eq!(read_record(&buffer, 0), Ok((call, length)));
+    assert!(buffer[length..].iter().all(|&byte| byte == 0xEE));
+}
+
+#[test]
+fn the_start_record_of_the_worked_example() {
+    let start = StartSettings { own_mid: 0x0200_0000_0001, maximum: 65, tvl: LAN, dgvl: LAN };
+    let expected = [0x01, 0x81, 0x80, 0x80, 0x80, 0x80, 0x40, 0x41, 1, 1, 1, 1];
+    assert_eq!(record_bytes(&Call::Start(start)).unwrap(), expected);
+}
+
+#[test]
+fn calls_read_back_also_with_values_out_of_range() {
+    let start = StartSettings { own_mid: u64::MAX, maximum: u64::MAX, tvl: WIDE, dgvl: LAN };
+    let outside = Area {
+        shape: u64::MAX,
+        latitude: i128::from(u64::MAX) - LATITUDE_BOUND,
+        longitude: i128::from(u64::MAX) - LONGITUDE_BOUND,
+        a: u64::MAX,
+        b: u64::MAX,
+        angle: u64::MAX,
+    };
+    let lowest = Area { latitude: -LATITUDE_BOUND, longitude: -LONGITUDE_BOUND, ..AREA };
+    for call in [
+        Call::Start(start),
+        Call::Enable(STOP),
+        Call::Enable(StopSettings { area: outside, interface: WIDE, ..STOP }),
+        Call::Disable(0),
+        Call::Disable(u64::MAX),
+        Call::DgvlArea(None),
+        Call::DgvlArea(Some(lowest)),
+        Call::OwnMid(u64::MAX),
+        Call::Indication(UNICAST),
+        Call::Indication(Indication { destination: Destination::Mid(u64::MAX), ..UNICAST }),
+        Call::Indication(to_area(GEO_ANYCAST, AREA)),
+        Call::Indication(to_area(GEO_BROADCAST, outside)),
+        Call::Indication(Indication { source: u64::MAX, packet: &[], ..tsb() }),
+        Call::Request(Request { index: u64::MAX, class: 255, neighbour: None, packet: &[] }),
+        Call::Request(Request { index: 2, class: 0, neighbour: Some(u64::MAX), packet: &[1] }),
+    ] {
+        assert_reads_back(call);
+    }
+}
+
+#[test]
+fn prefixes_of_every_length_read_back() {
+    for length in 0..=128 {
+        let mut bytes = [0; 16];
+        bytes[..bytes_needed(length)].fill(0xFF);
+        let prefix = Prefix { length, bytes };
+        assert_reads_back(Call::Enable(StopSettings { prefix, ..STOP }));
+    }
+}
+
+fn assert_no_form(call: Call) {
+    let mut buffer = [0xEE; 200];
+    assert_eq!(write_record(&call, &mut buffer), Err(Refusal::RecordBroken));
+    assert_eq!(buffer, [0xEE; 200]);
+    assert_eq!(write_record(&call, &mut []), Err(Refusal::RecordBroken), "14 before 13");
+}
+
+#[test]
+fn no_form_for_a_latitude_or_longitude_below_its_bound() {
+    for area in [
+        Area { latitude: -900_000_001, ..AREA },
+        Area { longitude: -1_800_000_001, ..AREA },
+        Area { latitude: i128::MIN, longitude: i128::MAX, ..AREA },
+    ] {
+        assert_no_form(Call::Enable(StopSettings { area, ..STOP }));
+        assert_no_form(Call::DgvlArea(Some(area)));
+        assert_no_form(Call::Indication(to_area(GEO_ANYCAST, area)));
+        assert_no_form(Call::Indication(to_area(GEO_BROADCAST, area)));
+    }
+}
+
+#[test]
+fn no_form_for_a_prefix_length_above_128() {
+    for length in [129, 136, u64::MAX] {
+        let prefix = Prefix { length, bytes: [0; 16] };
+        assert_no_form(Call::Enable(StopSettings { prefix, ..STOP }));
+    }
+}
+
+#[test]
+fn no_form_for_a_prefix_byte_past_those_needed() {
+    for length in 0..=120 {
+        for place in [bytes_needed(length), 15] {
+            let mut bytes = [0; 16];
+            bytes[place] = 1;
+            let prefix = Prefix { length, bytes };
+            assert_no_form(Call::Enable(StopSettings { prefix, ..STOP }));
+        }
+    }
+}
+
+#[test]
+fn no_form_for_a_transport_outside_1_to_4() {
+    for transport in [0, 5, 257, u64::MAX] {
+        for indication in [UNICAST, tsb(), to_area(GEO_BROADCAST, AREA)] {
+            assert_no_form(Call::Indication(Indication { transport, ..indication }));
+        }
+    }
+}
+
+#[test]
+fn no_form_for_a_destination_of_the_wrong_sort() {
+    let sorts = [Destination::Mid(1), Destination::Area(AREA), Destination::Nothing];
+    for transport in 1..=4 {
+        for destination in sorts {
+            let indication = Indication { transport, destination, ..UNICAST };
+            if destination.is_of_the_sort_of(transport) {
+                assert_reads_back(Call::Indication(indication));
+            } else {
+                assert_no_form(Call::Indication(indication));
+            }
+        }
+    }
+}
+
+#[test]
+fn without_room_nothing_is_written() {
+    for call in [Call::Indication(to_area(GEO_BROADCAST, AREA)), Call::Enable(STOP)] {
+        let record = record_bytes(&call).unwrap();
+        for room in 0..record.len() {
+            let mut buffer = vec![0xEE; room];
+            assert_eq!(write_record(&call, &mut buffer), Err(Refusal::NoRoom));
+            assert_eq!(buffer, vec![0xEE; room]);
+        }
+        let mut buffer = vec![0xEE; record.len()];
+        assert_eq!(write_record(&call, &mut buffer), Ok(record.len()));
+        assert_eq!(buffer, record);
+    }
+}

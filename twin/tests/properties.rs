@@ -1,0 +1,139 @@
+//! Properties over generated day files.
+
+use twin::generate::random::Random;
+use twin::generate::themes;
+use twin::generate::{day_file, FILES_OF_A_ROUND};
+use twin::listing::{lines, listing, print, MOST_INPUT};
+use twin::read::read_record;
+use twin::replay::Replay;
+use twin::reply::Refusal;
+use twin::write::{record_bytes, write_record};
+
+/// Every whole record of these bytes with its offset and end.
+fn for_each_record(bytes: &[u8], mut look: impl FnMut(usize, usize)) -> usize {
+    let mut offset = 0;
+    while let Ok((_, behind)) = read_record(bytes, offset) {
+        look(offset, behind);
+        offset = behind;
+    }
+    offset
+}
+
+#[test]
+fn written_records_read_back_and_are_the_only_form() {
+    for number in 0..200 {
+        let bytes = day_file(11, number);
+        for_each_record(&bytes, |offset, behind| {
+            let (call, _) = read_record(&bytes, offset).unwrap();
+            let written = record_bytes(&call).expect("a call that was read has a form");
+            assert_eq!(written, bytes[offset..behind]);
+            assert_eq!(read_record(&written, 0), Ok((call, written.len())));
+        });
+    }
+}
+
+#[test]
+fn the_writer_without_room_writes_nothing() {
+    let bytes = themes::mixed(Random::new(12)).into_bytes();
+    for_each_record(&bytes, |offset, behind| {
+        let (call, _) = read_record(&bytes, offset).unwrap();
+        let mut buffer = vec![0x77; behind - offset - 1];
+        assert_eq!(write_record(&call, &mut buffer), Err(Refusal::NoRoom));
+        assert!(buffer.iter().all(|&byte| byte == 0x77));
+    });
+}
+
+#[test]
+fn days_of_whole_records_read_to_their_end() {
+    for seed in 0..60 {
+        let bytes = themes::any(Random::new(seed)).into_bytes();
+        assert_eq!(for_each_record(&bytes, |_, _| ()), bytes.len());
+    }
+}
+
+#[test]
+fn refusals_change_nothing() {
+    for number in 0..40 {
+        let bytes = day_file(13, number);
+        let mut replay = Replay::default();
+        for_each_record(&bytes, |offset, _| {
+            let before = replay.clone();
+            let (answer, _) = replay.record(&bytes, offset).unwrap();
+            if answer.reply != 0 {
+                assert_eq!(replay, before);
+                assert_eq!((answer.link, answer.length), (None, 0));
+            }
+        });
+    }
+}
+
+#[test]
+fn tables_keep_what_document_01_says_of_them() {
+    for number in 0..40 {
+        let bytes = day_file(14, number);
+        let mut replay = Replay::default();
+        for_each_record(&bytes, |offset, _| {
+            replay.record(&bytes, offset).unwrap();
+            let Some(table) = replay.table() else { return };
+            let stops: Vec<_> = table.stops.values().collect();
+            assert!(table.stops.keys().all(|index| (2..=table.maximum).contains(index)));
+            assert!(stops.iter().all(|stop| stop.area.is_good() && stop.prefix.is_good()));
+            for (place, stop) in stops.iter().enumerate() {
+                for other in &stops[place + 1..] {
+                    assert!(stop.area != other.area && !stop.prefix.overlaps(&other.prefix));
+                }
+            }
+        });
+    }
+}
+
+#[test]
+fn the_listing_never_panics_on_random_bytes() {
+    let mut random = Random::new(15);
+    for _ in 0..3_000 {
+        let length = random.below(400);
+        let mask = random.pick(&[0xFF, 0x7F, 0x87, 0x07]);
+        let bytes: Vec<u8> = (0..length).map(|_| random.byte() & mask).collect();
+        let started = [&[1, 5, 65, 1, 0, 3, 1], &bytes[..]].concat();
+        for input in [bytes, started] {
+            let text = listing(&input);
+            assert!(text.starts_with("rec ans link n\n") && text.ends_with('\n'));
+            assert!(lines(&input).len() <= input.len());
+        }
+    }
+}
+
+#[test]
+fn input_past_the_limit_counts_as_missing() {
+    // The last of each round lies around the limit.
+    for round in 1..30 {
+        let bytes = day_file(16, round * FILES_OF_A_ROUND - 1);
+        assert!(bytes.len() >= MOST_INPUT - 1);
+        let read = &bytes[..bytes.len().min(MOST_INPUT)];
+        assert_eq!(listing(&bytes), listing(read));
+        assert_eq!(print(&lines(&bytes)), listing(&bytes));
+    }
+}
+
+#[test]
+fn a_listing_ends_with_14_or_reaches_the_end() {
+    for number in 0..200 {
+        let bytes = day_file(17, number);
+        let read = &bytes[..bytes.len().min(MOST_INPUT)];
+        let whole = for_each_record(read, |_, _| ());
+        let last = lines(&bytes).last().map(|line| (line.answer.reply, line.answer.length));
+        if whole < read.len() {
+            assert_eq!(last, Some((14, whole)));
+        } else {
+            assert!(last.is_none_or(|(reply, _)| reply != 14));
+        }
+    }
+}
+
+#[test]
+fn a_file_depends_on_seed_and_number_only() {
+    for number in 0..20 {
+        assert_eq!(day_file(1, number), day_file(1, number));
+    }
+    assert_ne!(day_file(1, 0), day_file(2, 0));
+}

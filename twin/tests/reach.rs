@@ -1,0 +1,140 @@
+//! What the generated day files reach: every allowed pair, and the situations
+//! within a pair that a listing could get wrong.
+
+use std::collections::BTreeMap;
+
+use twin::arriving::Indication;
+use twin::call::{Call, Destination, TSB};
+use twin::generate::day_file;
+use twin::leaving::Request;
+use twin::listing::{lines, MOST_INPUT};
+use twin::pairs::{allowed_pairs, Seen};
+use twin::read::read_record;
+use twin::replay::{Answer, Replay};
+use twin::table::Table;
+
+const FILES: u64 = 300;
+
+#[derive(Default)]
+struct Situations(BTreeMap<String, u64>);
+
+impl Situations {
+    fn add(&mut self, situation: impl Into<String>) {
+        *self.0.entry(situation.into()).or_default() += 1;
+    }
+
+    fn of_call(&mut self, table: &Table, call: &Call, answer: Answer) {
+        match call {
+            Call::Enable(_) if answer.reply == 6 => self.add(format!("full {}", table.maximum)),
+            Call::Enable(settings) if answer.reply == 0 => {
+                self.add(format!("prefix length {}", settings.prefix.length));
+                let gap = table.stops.keys().any(|&index| Some(index) > answer.link);
+                self.add(if gap { "enabled within a gap" } else { "enabled behind all" });
+                let of_dgvl = table.dgvl_area == Some(settings.area);
+                self.add(if of_dgvl { "stop with the DGVL's area" } else { "stop's own area" });
+            }
+            Call::Indication(indication) if answer.reply == 0 => {
+                self.of_indication(table, indication, answer)
+            }
+            Call::Request(request) if answer.reply == 0 => self.of_request(table, request),
+            _ => {}
+        }
+    }
+
+    fn of_indication(&mut self, table: &Table, indication: &Indication, answer: Answer) {
+        let on = if answer.link >= Some(2) { 2 } else { answer.link.unwrap() };
+        self.add(format!("indication {} on {on}", indication.transport));
+        let framed = answer.length != indication.packet.len();
+        self.add(format!("frame {framed} on {on}"));
+        if indication.transport != 1 || on != 2 {
+            return;
+        }
+        let holds = |place: usize| {
+            let address = indication.packet[place..place + 16].try_into().unwrap();
+            table.stops.values().any(|stop| stop.prefix.holds_address(&address))
+        };
+        self.add(format!("destination held {}, source held {}", holds(24), holds(8)));
+    }
+
+    fn of_request(&mut self, table: &Table, request: &Request) {
+        let on = request.index.min(2);
+        let sending = table.request(request).unwrap();
+        let sort = match sending.destination {
+            Destination::Mid(mid) if Some(mid) == request.neighbour => "given MID",
+            Destination::Mid(_) => "derived MID",
+            Destination::Area(_) => "area",
+            Destination::Nothing => "nothing",
+        };
+        self.add(format!("request {} {sort} on {on}", sending.transport));
+    }
+}
+
+fn situations() -> Situations {
+    let mut situations = Situations::default();
+    for number in 0..FILES {
+        let bytes = day_file(1, number);
+        let bytes = &bytes[..bytes.len().min(MOST_INPUT)];
+        let (mut replay, mut offset) = (Replay::default(), 0);
+        while let Ok((call, behind)) = read_record(bytes, offset) {
+            let before = replay.table().cloned();
+            let answer = replay.call(&call);
+            if let Some(table) = before {
+                situations.of_call(&table, &call, answer);
+            }
+            offset = behind;
+        }
+    }
+    situations
+}
+
+fn wanted() -> Vec<String> {
+    let mut wanted: Vec<String> = [
+        "enabled within a gap",
+        "stop with the DGVL's area",
+        "destination held true, source held true",
+        "destination held true, source held false",
+        "destination held false, source held true",
+        "request 3 area on 1",
+        "request 3 area on 2",
+    ]
+    .map(String::from)
+    .to_vec();
+    wanted.extend([2, 3, 4, 5, 65].map(|maximum| format!("full {maximum}")));
+    wanted.extend((0..=128).map(|length| format!("prefix length {length}")));
+    for transport in 1..TSB {
+        wanted.extend([1, 2].map(|on| format!("indication {transport} on {on}")));
+    }
+    wanted.push(format!("indication {TSB} on 0"));
+    for on in 0..=2 {
+        wanted.extend([false, true].map(|framed| format!("frame {framed} on {on}")));
+        wanted.extend(["given", "derived"].map(|sort| format!("request 1 {sort} MID on {on}")));
+    }
+    wanted.push("request 4 nothing on 0".to_string());
+    wanted
+}
+
+#[test]
+fn the_files_reach_the_situations_of_document_01() {
+    let situations = situations();
+    let missing: Vec<String> =
+        wanted().into_iter().filter(|one| !situations.0.contains_key(one)).collect();
+    assert!(missing.is_empty(), "{missing:?}");
+}
+
+#[test]
+fn the_files_reach_every_allowed_pair_and_no_other() {
+    for seed in [1, 2, u64::MAX] {
+        let mut seen = Seen::default();
+        (0..FILES).for_each(|number| seen.add(&lines(&day_file(seed, number))));
+        let missing: Vec<_> =
+            allowed_pairs().into_iter().filter(|&pair| seen.count(pair) == 0).collect();
+        assert!(missing.is_empty(), "seed {seed}: {missing:?}");
+        assert!(seen.not_allowed().is_empty());
+    }
+}
+
+#[test]
+fn the_files_are_long() {
+    let listed: usize = (0..FILES).map(|number| lines(&day_file(1, number)).len()).sum();
+    assert!(listed as u64 > 100 * FILES, "{listed}");
+}
