@@ -12,19 +12,19 @@ fn print(text: &[u8]) -> bool {
 fn print_link(link: PerhapsLink) -> bool {
     match link {
         PerhapsLink::Link(index) => io::print_decimal(STDOUT_FILENO, index.0 as u64),
-        PerhapsLink::Nothing => print(&[b'-']),
+        PerhapsLink::Nothing => print(b"-"),
     }
 }
 
 fn print_line(line: u64, number: u8, link: PerhapsLink, length: usize) {
     io::print_decimal(STDOUT_FILENO, line);
-    print(&[b' ']);
+    print(b" ");
     io::print_decimal(STDOUT_FILENO, number as u64);
-    print(&[b' ']);
+    print(b" ");
     print_link(link);
-    print(&[b' ']);
+    print(b" ");
     io::print_decimal(STDOUT_FILENO, length as u64);
-    print(&[b'\n']);
+    print(b"\n");
 }
 
 // A box that nobody has started: no call reads its table.
@@ -56,25 +56,7 @@ fn list(input: &[u8]) {
 }
 
 fn main() {
-    print(
-        &[
-            b'r',
-            b'e',
-            b'c',
-            b' ',
-            b'a',
-            b'n',
-            b's',
-            b' ',
-            b'l',
-            b'i',
-            b'n',
-            b'k',
-            b' ',
-            b'n',
-            b'\n',
-        ],
-    );
+    print(b"rec ans link n\n");
     let mut input = io::large_buffer();
     let n = io::read_full(STDIN_FILENO, &mut input);
     list(&input[..n]);

@@ -1,0 +1,122 @@
+// Document 01, Cases at the edges: those not marked *, each printed with what is expected and what came. The twin prints the
+// same lines from its own code.
+use area::Area;
+use libc::STDOUT_FILENO;
+use links::FixedSettings;
+use links::PerhapsLink;
+use links::Settings;
+use links::Table;
+use prefix::Prefix;
+use traffic::Destination;
+
+fn print(text: &[u8]) {
+    io::write_all(STDOUT_FILENO, text);
+}
+
+fn rectangle(latitude: i32, angle: u16) -> Area {
+    Area {
+        shape: 1,
+        latitude: latitude,
+        longitude: 0,
+        a: 500,
+        b: 300,
+        angle: angle,
+    }
+}
+
+fn settings(area: Area, len: u8, first: u8) -> Settings {
+    let mut bytes = [0u8; 16];
+    bytes[0] = first;
+    Settings {
+        area: area,
+        prefix: Prefix {
+            len: len,
+            bytes: bytes,
+        },
+        kind: 1,
+        flag: 1,
+    }
+}
+
+// Maximum 2, and its only stop link enabled.
+fn with_one_stop() -> Table {
+    let plain = FixedSettings { kind: 1, flag: 1 };
+    let start = table::start(1, 2, plain, plain);
+    let fresh = start.table;
+    let stop = settings(rectangle(0, 90), 0, 0);
+    let reply = table::enable(fresh, stop);
+    reply.table
+}
+
+// 40 bytes from fe80::1 to ff02::1.
+fn packet() -> [u8; 40] {
+    let mut bytes = [0u8; 40];
+    bytes[0] = 0x60;
+    bytes[8] = 0xfe;
+    bytes[9] = 0x80;
+    bytes[23] = 1;
+    bytes[24] = 0xff;
+    bytes[25] = 0x02;
+    bytes[39] = 1;
+    bytes
+}
+
+fn second_stop() {
+    let second = settings(rectangle(1_000, 90), 8, 0x20);
+    let reply = table::enable(with_one_stop(), second);
+    print(b"second stop link at maximum 2: expected 6 got ");
+    io::print_decimal(STDOUT_FILENO, reply.number as u64);
+    print(b"\n");
+}
+
+fn print_link(link: PerhapsLink, number: u8) {
+    match link {
+        PerhapsLink::Link(index) => {
+            print(b"link ");
+            io::print_decimal(STDOUT_FILENO, index.0 as u64);
+        }
+        PerhapsLink::Nothing => {
+            print(b"reply ");
+            io::print_decimal(STDOUT_FILENO, number as u64);
+        }
+    }
+}
+
+fn broadcast_beside_the_stop() {
+    let p = packet();
+    let d = Destination::Within(rectangle(0, 91));
+    let mut buffer = [0u8; 1294];
+    let reply = arrives::indication(with_one_stop(), 3, 2, 0, d, &p, &mut buffer);
+    print(b"broadcast to a rectangle with the angle one off: expected link 1 got ");
+    let link = reply.link;
+    print_link(link, reply.number);
+    print(b"\n");
+}
+
+fn buffer_of_packet_and_13() {
+    let p = packet();
+    let before = [0x5au8; 53];
+    let mut buffer = [0x5au8; 53];
+    let reply = arrives::indication(
+        with_one_stop(),
+        4,
+        2,
+        0,
+        Destination::Nothing,
+        &p,
+        &mut buffer,
+    );
+    print(b"buffer of packet + 13: expected 13 unchanged got ");
+    io::print_decimal(STDOUT_FILENO, reply.number as u64);
+    if octets::equal(&before, &buffer) {
+        print(b" unchanged\n");
+    } else {
+        print(b" changed\n");
+    }
+}
+
+fn main() {
+    second_stop();
+    broadcast_beside_the_stop();
+    buffer_of_packet_and_13();
+}
