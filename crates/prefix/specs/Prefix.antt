@@ -1,5 +1,5 @@
 -- Document 01, Prefix: what a prefix holds, which two overlap, and which are good.
-use Prim.Native.Nat.{ℕ}
+use Prim.Native.Nat.{ℕ, _+_, _/_, min}
 use mathlib.Core.Bool.{Bool, not, _&&_, _||_}
 use mathlib.Core.List.{List, _∷_}
 use lib.ListN.{length, take, drop, replicate}
@@ -37,3 +37,7 @@ goodPrefix p =
     && allZero (drop (p .len) (bits (p .bytes)))
     && not (overlap p linkLocal)
     && not (overlap p multicast)
+
+-- as many bytes as a length needs; a length above 128 needs no more than an address has
+abbrev pub bytesNeeded : ℕ → ℕ
+bytesNeeded len = (min len 128 + 7) / 8

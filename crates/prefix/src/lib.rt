@@ -4,7 +4,7 @@ ghost use Prim.Native.Nat.{_+_, _*_, _-_, _/_, _%_, _^_, _≤_, _<_, min};
 ghost use lib.ListN.{length, take, drop};
 ghost use Rattle.octets.specs.Digits.{bits};
 ghost use Rattle.octets.specs.Runs.{same, allZero};
-ghost use Rattle.prefix.specs.Prefix.{agrees, holds, holdsPrefix, overlap, goodPrefix};
+ghost use Rattle.prefix.specs.Prefix.{agrees, holds, holdsPrefix, overlap, goodPrefix, bytesNeeded};
 
 pub struct Prefix {
     pub len: u8,
@@ -23,6 +23,16 @@ fn bit_count(len: u8) -> usize
         return 128;
     }
     len as usize
+}
+
+// As many bytes as a length needs; a length above 128 needs no more than an address has.
+pub fn bytes_needed(len: u64) -> usize
+    ensures { λ r. ⌜ r ≡ bytesNeeded len ⌝ }
+{
+    if 128 <= len {
+        return 16;
+    }
+    ((len + 7) / 8) as usize
 }
 
 // The byte with the last of the first n bits.
