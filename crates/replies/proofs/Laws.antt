@@ -1,2 +1,3 @@
 -- The laws of refusals that the other crates cite.
 pub mod Refusals
+pub mod Promise
