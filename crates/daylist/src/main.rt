@@ -4,6 +4,11 @@ use libc::STDOUT_FILENO;
 use links::FixedSettings;
 use links::PerhapsLink;
 use links::Table;
+ghost use mathlib.Core.Path.{_≡_};
+ghost use lib.ListN.{replicate};
+ghost use Rattle.links.specs.Slots.{free};
+ghost use Rattle.links.specs.Calls.{plain, fresh};
+ghost use Rattle.daylist.specs.Day.{evening};
 
 fn print(text: &[u8]) -> bool {
     io::write_all(STDOUT_FILENO, text)
@@ -28,31 +33,37 @@ fn print_line(line: u64, number: u8, link: PerhapsLink, length: usize) {
 }
 
 // A box that nobody has started: no call reads its table.
-fn unstarted() -> Table {
+fn unstarted() -> Table
+    ensures { λ r. ⌜ r ≡ fresh (replicate 64 free) 0 2 plain plain ⌝ }
+{
     let plain = FixedSettings { kind: 1, flag: 1 };
     Table::fresh(0, 2, plain, plain)
 }
 
-// A record has two bytes or more, so that 65,536 turns list every input.
-fn list(input: &[u8]) {
+// Prints a line for each record, and gives the table in the evening: no contract can say what is printed, but a loop that
+// forgets what a record did to the box gives another table.
+fn list(input: &[u8]) -> Table
+    ensures { λ r. ⌜ r ≡ evening (now (input .entry)) ⌝ }
+{
     let mut started = false;
     let mut t = unstarted();
     let mut at: usize = 0;
     let mut line: u64 = 0;
-    while line < 65_536 && at < input.len() {
+    while at < input.len() {
         line += 1;
         let mut buffer = [0u8; 1294];
         let s = replay::one_record(started, t, input, at, &mut buffer);
         let link = s.link;
+        let table = s.table;
         print_line(line, s.number, link, s.length);
         if s.number == replies::RECORD_BROKEN {
-            return;
+            return table;
         }
-        let table = s.table;
         t = table;
         started = s.started;
         at = s.next;
     }
+    t
 }
 
 fn main() {

@@ -1,48 +1,79 @@
 -- `daylist::list` meets its contract.
-use Prim.Native.Nat.{_-_}
+use Prim.Native.Nat.{_-_, _≤_}
 use native.Mathlib.Omega.{arith}
+use mathlib.Core.Path.{_≡_, sym, _∙_}
+use lib.ListN.{length}
 use borrow.Author.Needs.{needs}
+use Rattle.replay.specs.Replay.{stepAt}
+use Rattle.daylist.specs.Day.{lent, tableFrom, evening}
+use Rattle.record_laws.proofs.Laws.Next.{step-behind}
+use Rattle.daylist.proofs.Laws.Day.{day-goes-on, day-breaks, day-ends}
 use Rattle.daylist.proofs.list.Statement.{statement}
 use Rattle.daylist.proofs.list.Tie as tie
 
 abbrev Inv-loop : tie.InvT-loop
-Inv-loop input started₀ t₀ at₀ line₀ started t at line = Unit {0}
+Inv-loop input started₀ t₀ at₀ line₀ started t at line =
+    (line ≤ at) × (at ≤ length input) × (evening input ≡ tableFrom (length input - line) input started t at)
 
 abbrev μ-loop : tie.MeasureT-loop
-μ-loop input started₀ t₀ at₀ line₀ started t at line = 65_536 - line
+μ-loop input started₀ t₀ at₀ line₀ started t at line = length input - at
 
 unstarted-requires : tie.Need-unstarted-requires Inv-loop μ-loop
-unstarted-requires c κs = tt
+unstarted-requires c κs = search needs
 
 loop-holds : tie.Need-loop-holds Inv-loop μ-loop
-loop-holds c = tt
+unfolding evening
+loop-holds c =
+    let all : length (c .before .before .args .input .now) - 0 ≡ length (c .before .before .args .input .now) = omega arith in
+    (omega arith, omega arith, rw (c .unstarted .ensures, all))
 
 add-line : tie.Need-add-line Inv-loop μ-loop
-add-line c = omega arith
+add-line c = search (c .before .loop .inv, needs)
 
 slice-aggregate-one-record : tie.Need-slice-aggregate-one-record Inv-loop μ-loop
 slice-aggregate-one-record c = search needs
 
 one-record-requires : tie.Need-one-record-requires Inv-loop μ-loop
-one-record-requires c κs = tt
+one-record-requires c κs = search needs
 
 print-line-requires : tie.Need-print-line-requires Inv-loop μ-loop
-print-line-requires c κs = tt
+print-line-requires c κs = search needs
 
 returns : tie.Need-returns Inv-loop μ-loop
-returns c = tt
+returns c =
+    let input = c .before .before .before .before .before .before .before .before .before .before .before .args .input .now in
+    let loop = c .before .before .before .before .before .before .before .before .loop in
+    let step = c .before .before .before .before .before .one-record in
+    let more = c .before .before .before .before .before .before .before .loop-test .taken in
+    sym (loop .inv .2 ∙ day-breaks input (loop .started) (loop .t) (loop .at) (loop .line) (loop .inv .0) more (step .result) (step .ensures .0) (c .if1 .taken))
 
 loop-less : tie.Need-loop-less Inv-loop μ-loop
-loop-less c = omega arith
+loop-less c =
+    let input = c .before .before .before .before .before .before .before .before .before .before .before .args .input .now in
+    let loop = c .before .before .before .before .before .before .before .before .loop in
+    let step = c .before .before .before .before .before .one-record in
+    let more = c .before .before .before .before .before .before .before .loop-test .taken in
+    let behind = step-behind (loop .started) (loop .t) input (loop .at) lent (rw (step .ensures .0) at (c .if1 .left)) in
+    let place : step .result .next ≡ stepAt (loop .started) (loop .t) input (loop .at) lent .next = rw (step .ensures .0) in
+    omega (arith, behind, place, more)
 
 loop-again : tie.Need-loop-again Inv-loop μ-loop
-loop-again c = tt
+loop-again c =
+    let input = c .before .before .before .before .before .before .before .before .before .before .before .args .input .now in
+    let loop = c .before .before .before .before .before .before .before .before .loop in
+    let step = c .before .before .before .before .before .one-record in
+    let more = c .before .before .before .before .before .before .before .loop-test .taken in
+    let behind = step-behind (loop .started) (loop .t) input (loop .at) lent (rw (step .ensures .0) at (c .if1 .left)) in
+    let place : step .result .next ≡ stepAt (loop .started) (loop .t) input (loop .at) lent .next = rw (step .ensures .0) in (
+      omega (arith, behind, place, loop .inv .0),
+      omega (arith, behind, place),
+      loop .inv .2 ∙ day-goes-on input (loop .started) (loop .t) (loop .at) (loop .line) (loop .inv .0) more (step .result) (step .ensures .0) (c .if1 .left),
+    )
 
 returns-2 : tie.Need-returns-2 Inv-loop μ-loop
-returns-2 c = tt
-
-returns-3 : tie.Need-returns-3 Inv-loop μ-loop
-returns-3 c = tt
+returns-2 c =
+    let loop = c .before .loop in
+    sym (loop .inv .2 ∙ day-ends (c .before .before .before .before .args .input .now) (loop .started) (loop .t) (loop .at) (loop .line) _ (c .loop-test .left))
 
 pub list-spec : {M : Type 1} → statement M
 list-spec =
@@ -59,5 +90,4 @@ list-spec =
     returns
     loop-less
     loop-again
-    returns-2
-    returns-3)
+    returns-2)

@@ -1,0 +1,2 @@
+-- The laws of the listing's loop.
+pub mod Day
