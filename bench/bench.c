@@ -38,6 +38,17 @@ static bool alike(const struct day *d) {
     return c == proved && memcmp(one, two, ROOM) == 0;
 }
 
+#ifdef COUNT_COPIES
+// The same driver linked with copies.c counts copies of the table instead of time.
+u64 copies_of(side *replay, const struct day *d);
+
+static struct cost cost_of(const struct day *d) {
+    struct cost x = { (double)copies_of(c_whole_day, d), (double)copies_of(gn6_whole_day, d) };
+    return x;
+}
+
+static void print_row(const char *name, struct cost x) { printf("%-52s %9.0f %9.0f\n", name, x.c, x.proved); }
+#else
 // Nanoseconds for the whole day, as many times as make two milliseconds.
 static struct cost cost_of(const struct day *d) {
     struct cost best = { 1e18, 1e18 };
@@ -55,6 +66,7 @@ static struct cost cost_of(const struct day *d) {
 static void print_row(const char *name, struct cost x) {
     printf("%-52s %9.1f %9.1f %7.2f\n", name, x.c, x.proved, x.proved / x.c);
 }
+#endif
 
 static struct day new_day(u64 stops) {
     struct day d = { malloc(LARGEST), 0 };
@@ -169,8 +181,12 @@ static void compare_damaged_days(int count) {
 }
 
 int main(void) {
+#ifdef COUNT_COPIES
+    printf("%-52s %9s %9s\n", "copies of the table for one record", "C", "proved");
+#else
     compare_damaged_days(20000);
     printf("%-52s %9s %9s %7s\n", "one record, in nanoseconds", "C", "proved", "ratio");
+#endif
     print_table_calls();
     print_indications();
     print_requests_and_reading();
