@@ -52,7 +52,7 @@ returns c =
     (ap q (counted-at (args .t1) (l .i) _ within) ∙ sym (c .before .before .is-wanted .ensures) ∙ c .before .if1 .taken) in (
       here,
       ap kind-of (any-default (args .t1 .slots) (l .i) _ free (omega (arith, all)) ∙ sym (counted-at (args .t1) (l .i) free within))
-      ∙ ap (λ (k : ℕ). kind-of (getD (counted (args .t1)) k free)) here,
+          ∙ ap (λ (k : ℕ). kind-of (getD (counted (args .t1)) k free)) here,
     )
 
 add-i : tie.Need-add-i Inv-loop μ-loop

@@ -37,8 +37,8 @@ returns-2 c =
     let r = c .before .before .before .link-or-dynamic in
     let found = r .ensures .0 ∙ ap (λ (a : List ℕ). IndexOr (λ s. reaches s a) l 1) (c .before .before .before .before .before .destination-of .ensures) in (
       found
-      ∙ index-kept (λ s. reaches s (destination (x .packet))) l (IndexOr (λ s. reaches s (source (x .packet))) l 1) (λ e. c .if3 .taken (found ∙ e))
-      ∙ sym (index-unicast l x (c .before .before .before .before .before .before .before .before .if2 .taken)),
+          ∙ index-kept (λ s. reaches s (destination (x .packet))) l (IndexOr (λ s. reaches s (source (x .packet))) l 1) (λ e. c .if3 .taken (found ∙ e))
+          ∙ sym (index-unicast l x (c .before .before .before .before .before .before .before .before .if2 .taken)),
       r .ensures .1,
     )
 
@@ -56,9 +56,9 @@ returns-3 c =
     let r = c .before .before .before .before .link-or-dynamic in
     let found = r .ensures .0 ∙ ap (λ (a : List ℕ). IndexOr (λ s. reaches s a) l 1) (c .before .before .before .before .before .before .destination-of .ensures) in (
       c .link-or-dynamic2 .ensures .0
-      ∙ ap (λ (a : List ℕ). IndexOr (λ s. reaches s a) l 1) (c .before .before .before .before .before .source-of .ensures)
-      ∙ index-failing (λ s. reaches s (destination (x .packet))) l (IndexOr (λ s. reaches s (source (x .packet))) l 1) (sym found ∙ c .before .if3 .left)
-      ∙ sym (index-unicast l x (c .before .before .before .before .before .before .before .before .before .if2 .taken)),
+          ∙ ap (λ (a : List ℕ). IndexOr (λ s. reaches s a) l 1) (c .before .before .before .before .before .source-of .ensures)
+          ∙ index-failing (λ s. reaches s (destination (x .packet))) l (IndexOr (λ s. reaches s (source (x .packet))) l 1) (sym found ∙ c .before .if3 .left)
+          ∙ sym (index-unicast l x (c .before .before .before .before .before .before .before .before .before .if2 .taken)),
       c .link-or-dynamic2 .ensures .1,
     )
 
@@ -95,7 +95,7 @@ returns-5 c =
     let x = indication (args .transport) 0 0 (args .d) (args .packet .now) in
     let r = c .link-or-dynamic3 in (
       r .ensures .0
-      ∙ rw (c .before .before .of-area .ensures) (sym (index-area l x (not-false _ (c .before .before .before .before .before .before .if4 .left)) ∙ rw (c .before .before .before .before .d .given .1))),
+          ∙ rw (c .before .before .of-area .ensures) (sym (index-area l x (not-false _ (c .before .before .before .before .before .before .if4 .left)) ∙ rw (c .before .before .before .before .d .given .1))),
       r .ensures .1,
     )
 
