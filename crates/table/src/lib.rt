@@ -53,10 +53,10 @@ pub fn enable(t: Table, s: Settings) -> Reply
     if slots::has(t, Wanted::Overlapping, s) {
         return without_link(t, replies::PREFIX_OVERLAPS);
     }
-    let k = slots::first_unused(t);
-    if slots::slot_count(t.max) <= k {
+    if !slots::has(t, Wanted::Unused, s) {
         return without_link(t, replies::NO_INDEX_FREE);
     }
+    let k = slots::first_unused(t);
     let slot = Slot {
         enabled: true,
         settings: s,

@@ -2,14 +2,14 @@
 use Prim.Native.Nat.{_<_}
 use native.Mathlib.Omega.{arith}
 use mathlib.Core.Path.{_≡_, sym, _∙_}
-use mathlib.Core.Bool.{true, false}
+use mathlib.Core.Bool.{true}
 use lib.Dec.{lit<}
 use lib.ListN.{length}
-use borrow.Author.Tests.{lt-ltb, le-ltb}
+use borrow.Author.Tests.{ltb-true, not-false}
 use borrow.Author.Needs.{needs}
 use Rattle.octets.proofs.Laws.Runs.{length-mapped}
 use Rattle.replies.specs.Rules.{refusal}
-use Rattle.links.specs.Slots.{counted, any, unused}
+use Rattle.links.specs.Slots.{counted, any, place, unused}
 use Rattle.links.specs.Calls.{enable, rules, slotRules, tableAfter, linkAfter}
 use Rattle.links.proofs.Laws.Replies.{refused, done, by-settings, by-slots}
 use Rattle.links.proofs.Laws.Counted.{counted-length}
@@ -21,25 +21,14 @@ use Rattle.table.proofs.enable.Tie as tie
 passed : (c : tie.Else1) → refusal (rules (counted (c .before .before .args .t)) (enable (c .before .before .args .s))) ≡ refusal (slotRules (counted (c .before .before .args .t)) (c .before .before .args .s))
 passed c = by-slots (counted (c .before .before .args .t)) (c .before .before .args .s) (sym (c .before .refusal-of .ensures) ∙ c .if1 .left)
 
-all : (c : tie.Start) → length (c .args .t .slots) ≡ 64
-all c = search (length-mapped, needs)
-
-count : (c : tie.After-slot-count) → length (counted (c .before .before .before .before .before .before .before .before .args .t)) ≡ c .slot-count .result
-count c = counted-length (c .before .before .before .before .before .before .before .before .args .t) 64 (all (c .before .before .before .before .before .before .before .before)) ∙ sym (c .slot-count .ensures)
-
--- whether an index is free is whether the unused slot is one of those that count
-full : (c : tie.Then4) → any unused (counted (c .before .before .before .before .before .before .before .before .before .args .t)) ≡ false
-full c =
-    let l = counted (c .before .before .before .before .before .before .before .before .before .args .t) in
-    any-place unused l ∙ rw (count (c .before), ← c .before .before .first-unused .ensures) (le-ltb _ _ (c .if4 .taken))
-
-some-unused : (c : tie.Else4) → any unused (counted (c .before .before .before .before .before .before .before .before .before .args .t)) ≡ true
-some-unused c =
-    let l = counted (c .before .before .before .before .before .before .before .before .before .args .t) in
-    any-place unused l ∙ rw (count (c .before), ← c .before .before .first-unused .ensures) (lt-ltb _ _ (c .if4 .left))
-
-below : (c : tie.Else4) → c .before .before .first-unused .result < 64
-below c = omega (arith, c .before .slot-count .ensures)
+-- the unused slot is one of those that count
+below : (c : tie.After-first-unused) → c .first-unused .result < 64
+below c =
+    let t = c .before .before .before .before .before .before .before .before .before .args .t in
+    let all : length (t .slots) ≡ 64 = search (length-mapped, needs) in
+    let some : any unused (counted t) ≡ true = sym (c .before .before .has3 .ensures) ∙ not-false (c .before .before .has3 .result) (c .before .if4 .left) in
+    let there : place unused (counted t) < length (counted t) = ltb-true _ _ (sym (any-place unused (counted t)) ∙ some) in
+    rw (c .first-unused .ensures) (omega (arith, counted-length t 64 all))
 
 refusal-of-requires : tie.Need-refusal-of-requires
 refusal-of-requires c κs = search needs
@@ -82,11 +71,8 @@ returns-3 c =
     ∙ sym (refused (args .t) (enable (args .s)) 5 (lit< tt)
     (passed (c .before .before .before .before .before) ∙ rw (← c .before .before .before .before .has .ensures, c .before .before .before .if2 .left, ← c .before .before .has2 .ensures, c .before .if3 .taken)))
 
-first-unused-requires : tie.Need-first-unused-requires
-first-unused-requires c κs = search needs
-
-slot-count-requires : tie.Need-slot-count-requires
-slot-count-requires c κs = search needs
+has-requires-3 : tie.Need-has-requires-3
+has-requires-3 c κs = search needs
 
 without-link-requires-4 : tie.Need-without-link-requires-4
 without-link-requires-4 c κs = search needs
@@ -94,13 +80,16 @@ without-link-requires-4 c κs = search needs
 returns-4 : tie.Need-returns-4
 unfolding slotRules
 returns-4 c =
-    let args = c .before .before .before .before .before .before .before .before .before .before .args in
+    let args = c .before .before .before .before .before .before .before .before .before .args in
     c .without-link4 .ensures
     ∙ sym (refused (args .t) (enable (args .s)) 6 (lit< tt)
-    (passed (c .before .before .before .before .before .before .before .before) ∙ rw (← c .before .before .before .before .before .before .before .has .ensures, c .before .before .before .before .before .before .if2 .left, ← c .before .before .before .before .before .has2 .ensures, c .before .before .before .before .if3 .left, full (c .before))))
+    (passed (c .before .before .before .before .before .before .before) ∙ rw (← c .before .before .before .before .before .before .has .ensures, c .before .before .before .before .before .if2 .left, ← c .before .before .before .before .has2 .ensures, c .before .before .before .if3 .left, ← c .before .before .has3 .ensures, c .before .if4 .taken)))
 
-add-t10 : tie.Need-add-t10
-add-t10 c = omega (arith, below c)
+first-unused-requires : tie.Need-first-unused-requires
+first-unused-requires c κs = search needs
+
+add-t11 : tie.Need-add-t11
+add-t11 c = omega (arith, below c)
 
 with-slot-requires : tie.Need-with-slot-requires
 with-slot-requires c κs = search needs
@@ -109,9 +98,9 @@ returns-5 : tie.Need-returns-5
 unfolding slotRules tableAfter linkAfter
 returns-5 c =
     let args = c .before .before .before .before .before .before .before .before .before .before .args in
-    rw (c .with-slot .ensures, c .before .before .before .first-unused .ensures)
+    rw (c .with-slot .ensures, c .before .first-unused .ensures)
     (sym (done (args .t) (enable (args .s))
-    (passed (c .before .before .before .before .before .before .before .before) ∙ rw (← c .before .before .before .before .before .before .before .has .ensures, c .before .before .before .before .before .before .if2 .left, ← c .before .before .before .before .before .has2 .ensures, c .before .before .before .before .if3 .left, some-unused (c .before)))))
+    (passed (c .before .before .before .before .before .before .before .before) ∙ rw (← c .before .before .before .before .before .before .before .has .ensures, c .before .before .before .before .before .before .if2 .left, ← c .before .before .before .before .before .has2 .ensures, c .before .before .before .before .if3 .left, ← c .before .before .before .has3 .ensures, c .before .before .if4 .left))))
 
 pub enable-spec : {M : Type 1} → statement M
 enable-spec =
@@ -126,10 +115,10 @@ enable-spec =
     has-requires-2
     without-link-requires-3
     returns-3
-    first-unused-requires
-    slot-count-requires
+    has-requires-3
     without-link-requires-4
     returns-4
-    add-t10
+    first-unused-requires
+    add-t11
     with-slot-requires
     returns-5)
