@@ -3,10 +3,12 @@ use area::Area;
 use links::LinkIndex;
 use links::Settings;
 use links::Table;
+use slots::Chosen;
 use slots::Wanted;
 use traffic::Destination;
 ghost use mathlib.Core.Path.{_≡_};
 ghost use Rattle.links.specs.Slots.{counted};
+ghost use Rattle.links.specs.Index.{interfaceAt};
 ghost use Rattle.traffic.specs.Arrives.{indication, choose, indexNumber};
 
 // Settings for a question about the area alone.
@@ -24,30 +26,40 @@ fn of_area(a: Area) -> Settings
     }
 }
 
-// The index of the link. The source MID and the class of the indication decide nothing.
-pub fn link_of(t: Table, transport: u8, d: Destination, packet: &[u8]) -> usize
-    ensures { λ r. ⌜ r ≡ indexNumber (choose (counted t) (indication transport 0 0 d (now (packet .entry)))) ⌝ }
+// The link by its index, and its kind. The source MID and the class of the indication decide nothing.
+pub fn link_of(t: Table, transport: u8, d: Destination, packet: &[u8]) -> Chosen
+    ensures { λ r. ⌜ (r .index ≡ indexNumber (choose (counted t) (indication transport 0 0 d (now (packet .entry))))) × (r .kind ≡ interfaceAt t (r .index) .kind) ⌝ }
 {
+    let tvl = t.tvl;
+    let dgvl = t.dgvl;
+    let topological = Chosen {
+        index: LinkIndex::TVL.0,
+        kind: tvl.kind,
+    };
+    let dynamic = Chosen {
+        index: LinkIndex::DGVL.0,
+        kind: dgvl.kind,
+    };
     if transport == 4 {
-        return LinkIndex::TVL.0;
+        return topological;
     }
     if transport == 1 {
         let slot = links::blank_slot();
         let s = slot.settings;
         let to = ipv6::destination_of(packet);
         let from = ipv6::source_of(packet);
-        let i = slots::index_or_dynamic(t, Wanted::Reaching, s, to);
-        if i != LinkIndex::DGVL.0 {
-            return i;
+        let found = slots::link_or_dynamic(t, Wanted::Reaching, s, to);
+        if found.index != LinkIndex::DGVL.0 {
+            return found;
         }
-        return slots::index_or_dynamic(t, Wanted::Reaching, s, from);
+        return slots::link_or_dynamic(t, Wanted::Reaching, s, from);
     }
     if !((transport == 2) | (transport == 3)) {
-        return LinkIndex::DGVL.0;
+        return dynamic;
     }
     match d {
-        Destination::Within(a) => slots::index_or_dynamic(t, Wanted::SameGround, of_area(a), b""),
-        Destination::Mid(_) => LinkIndex::DGVL.0,
-        Destination::Nothing => LinkIndex::DGVL.0,
+        Destination::Within(a) => slots::link_or_dynamic(t, Wanted::SameGround, of_area(a), b""),
+        Destination::Mid(_) => dynamic,
+        Destination::Nothing => dynamic,
     }
 }

@@ -53,9 +53,9 @@ pub fn indication(
             class: 0,
         };
     }
-    let index = choice::link_of(t, transport, d, packet);
-    let interface = slots::index::interface_at(t, LinkIndex(index));
-    let length = write(interface.kind, source, d, packet, out);
+    let chosen = choice::link_of(t, transport, d, packet);
+    let index = chosen.index;
+    let length = write(chosen.kind, source, d, packet, out);
     Reception {
         number: replies::DONE,
         link: PerhapsLink::Link(LinkIndex(index)),

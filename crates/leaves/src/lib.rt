@@ -84,7 +84,8 @@ pub fn request(
     if !neighbour_ok(neighbour) {
         return refused(replies::VALUE_OUT_OF_RANGE);
     }
-    if !slots::index::is_enabled(t, index) {
+    let link = slots::index::link_at(t, index);
+    if !link.enabled {
         return refused(replies::NO_SUCH_LINK);
     }
     let bad = ipv6::refusal_of(packet);
@@ -99,10 +100,11 @@ pub fn request(
         if index.0 == 0 {
             return sent(4, Destination::Nothing, class, packet.len());
         }
-        let whole = within_area(slots::index::area_at(t, index));
+        let there = link.area;
+        let whole = within_area(there);
         return sent(3, whole, class, packet.len());
     }
-    let f = slots::index::interface_at(t, index);
+    let f = link.interface;
     match neighbour_of(f, neighbour, packet) {
         PerhapsMid::Mid(m) => sent(1, Destination::Mid(m), class, packet.len()),
         PerhapsMid::Nothing => refused(replies::NEIGHBOUR_UNKNOWN),

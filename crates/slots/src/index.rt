@@ -14,38 +14,45 @@ pub fn is_enabled(t: Table, index: LinkIndex) -> bool
     (index.0 < 2) | slot.enabled
 }
 
-// Its kind and flag.
-pub fn interface_at(t: Table, index: LinkIndex) -> FixedSettings
-    ensures { λ r. ⌜ r ≡ interfaceAt t (index .0) ⌝ }
-{
-    let i = index.0;
-    if i == LinkIndex::TVL.0 {
-        return t.tvl;
-    }
-    if i == LinkIndex::DGVL.0 {
-        return t.dgvl;
-    }
-    let slot = crate::slot_at(t, index);
-    let s = slot.settings;
-    FixedSettings {
-        kind: s.kind,
-        flag: s.flag,
-    }
+// What a request asks of a link.
+pub struct Named {
+    pub enabled: bool,
+    pub interface: FixedSettings,
+    pub area: DynamicArea,
 }
 
-// Its area: the topological link has none, the dynamic link perhaps one.
-pub fn area_at(t: Table, index: LinkIndex) -> DynamicArea
-    ensures { λ r. ⌜ r ≡ areaAt t (index .0) ⌝ }
+// The link itself: its kind and flag, and its area. The topological link has no area, the dynamic link perhaps one. One function
+// gives them all because each function that reads a slot of its table copies the whole table.
+pub fn link_at(t: Table, index: LinkIndex) -> Named
+    ensures { λ r. ⌜ (r .enabled ≡ enabledAt (counted t) (index .0)) × (r .interface ≡ interfaceAt t (index .0)) × (r .area ≡ areaAt t (index .0)) ⌝ }
 {
     let i = index.0;
     if i == LinkIndex::TVL.0 {
-        return DynamicArea::Unset;
+        let tvl = t.tvl;
+        return Named {
+            enabled: true,
+            interface: tvl,
+            area: DynamicArea::Unset,
+        };
     }
     if i == LinkIndex::DGVL.0 {
-        return t.area;
+        let dgvl = t.dgvl;
+        let area = t.area;
+        return Named {
+            enabled: true,
+            interface: dgvl,
+            area: area,
+        };
     }
     let slot = crate::slot_at(t, index);
     let s = slot.settings;
     let a = s.area;
-    DynamicArea::Set(a)
+    Named {
+        enabled: slot.enabled,
+        interface: FixedSettings {
+            kind: s.kind,
+            flag: s.flag,
+        },
+        area: DynamicArea::Set(a),
+    }
 }

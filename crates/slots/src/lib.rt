@@ -1,5 +1,5 @@
 // The slots of a table by value: read one, replace one, and look for one. Every question about the enabled links, and the lowest
-// unused index, is asked of the one loop in `first_place`.
+// unused index, is asked of the one loop in `find`.
 pub mod index;
 
 use links::LinkIndex;
@@ -10,7 +10,9 @@ ghost use mathlib.Core.Path.{_≡_};
 ghost use mathlib.Core.List.{[]};
 ghost use mathlib.Core.Bool.{cond};
 ghost use Prim.Native.Nat.{_+_, _-_, min};
-ghost use Rattle.links.specs.Slots.{counted, slotAt, any, place, unused};
+ghost use lib.ListN.{getD};
+ghost use Rattle.links.specs.Slots.{free, counted, slotAt, any, place, unused};
+ghost use Rattle.links.specs.Index.{interfaceAt};
 ghost use Rattle.links.specs.Calls.{withSlot};
 ghost use Rattle.slots.specs.Search.{passes};
 
@@ -46,20 +48,44 @@ pub fn slot_count(max: usize) -> usize
     if max < 65 { max - 1 } else { 64 }
 }
 
-// The place of the first slot that is wanted; the number of slots that count where there is none.
-pub fn first_place(t: Table, wanted: Wanted, s: Settings, address: &[u8]) -> usize
-    ensures { λ r. ⌜ r ≡ place (passes wanted s (now (address .entry))) (counted t) ⌝ }
+// The first slot that is wanted: its place, and its kind. Where there is none, the number of slots that count, and 0.
+pub struct Found {
+    pub place: usize,
+    pub kind: u8,
+}
+
+// A link by its index, and its kind.
+pub struct Chosen {
+    pub index: usize,
+    pub kind: u8,
+}
+
+// The one loop. The kind comes with the place because each function that reads a slot of its table copies the whole table.
+pub fn find(t: Table, wanted: Wanted, s: Settings, address: &[u8]) -> Found
+    ensures { λ r. ⌜ (r .place ≡ place (passes wanted s (now (address .entry))) (counted t)) × (r .kind ≡ getD (counted t) (place (passes wanted s (now (address .entry))) (counted t)) free .settings .kind) ⌝ }
 {
     let n = slot_count(t.max);
     let mut i: usize = 0;
     while i < n {
         let x = t.slots[i];
         if is_wanted(x, wanted, s, address) {
-            return i;
+            let r = x.settings;
+            return Found {
+                place: i,
+                kind: r.kind,
+            };
         }
         i += 1;
     }
-    i
+    Found { place: i, kind: 0 }
+}
+
+// The place of the first slot that is wanted; the number of slots that count where there is none.
+pub fn first_place(t: Table, wanted: Wanted, s: Settings, address: &[u8]) -> usize
+    ensures { λ r. ⌜ r ≡ place (passes wanted s (now (address .entry))) (counted t) ⌝ }
+{
+    let f = find(t, wanted, s, address);
+    f.place
 }
 
 // Is there a slot that is wanted? No address is asked for.
@@ -69,15 +95,21 @@ pub fn has(t: Table, wanted: Wanted, s: Settings) -> bool
     first_place(t, wanted, s, b"") < slot_count(t.max)
 }
 
-// The index of the first slot that is wanted, or that of the dynamic link.
-pub fn index_or_dynamic(t: Table, wanted: Wanted, s: Settings, address: &[u8]) -> usize
-    ensures { λ r. ⌜ r ≡ cond (any (passes wanted s (now (address .entry))) (counted t)) (place (passes wanted s (now (address .entry))) (counted t) + 2) 1 ⌝ }
+// The link of the first slot that is wanted, or the dynamic link.
+pub fn link_or_dynamic(t: Table, wanted: Wanted, s: Settings, address: &[u8]) -> Chosen
+    ensures { λ r. ⌜ (r .index ≡ cond (any (passes wanted s (now (address .entry))) (counted t)) (place (passes wanted s (now (address .entry))) (counted t) + 2) 1) × (r .kind ≡ interfaceAt t (r .index) .kind) ⌝ }
 {
-    let k = first_place(t, wanted, s, address);
-    if k < slot_count(t.max) {
-        k + 2
-    } else {
-        LinkIndex::DGVL.0
+    let f = find(t, wanted, s, address);
+    let dgvl = t.dgvl;
+    if f.place < slot_count(t.max) {
+        return Chosen {
+            index: f.place + 2,
+            kind: f.kind,
+        };
+    }
+    Chosen {
+        index: LinkIndex::DGVL.0,
+        kind: dgvl.kind,
     }
 }
 

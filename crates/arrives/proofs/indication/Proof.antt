@@ -7,7 +7,6 @@ use lib.ListN.{length, drop}
 use borrow.Author.Needs.{needs}
 use Rattle.replies.specs.Rules.{refusal}
 use Rattle.frames.proofs.Laws.Put.{put-all, put-length}
-use Rattle.links.specs.declared.FixedSettings.{FixedSettings}
 use Rattle.links.specs.declared.PerhapsLink.the-variants.{Link}
 use Rattle.links.specs.Slots.{counted}
 use Rattle.links.specs.Index.{interfaceAt}
@@ -34,9 +33,6 @@ returns c =
 link-of-requires : tie.Need-link-of-requires
 link-of-requires c κs = search needs
 
-interface-at-requires : tie.Need-interface-at-requires
-interface-at-requires c κs = search needs
-
 write-requires : tie.Need-write-requires
 write-requires c κs = search needs
 
@@ -46,16 +42,16 @@ same-length c = search needs
 returns-2 : tie.Need-returns-2
 unfolding indicationRules choose byArea byDestination bySource written
 returns-2 c =
-    let args = c .before .before .before .before .before .before .before .before .before .before .args in
+    let args = c .before .before .before .before .before .before .before .before .before .args in
     let x = indication (args .transport) (args .source) (args .class) (args .d) (args .packet .now) in
     let out = args .out .now in
-    let good : refusal (indicationRules x (length out)) ≡ 0 = sym (c .before .before .before .before .before .before .before .refusal-of .ensures) ∙ c .before .before .before .before .before .before .if1 .left in
+    let good : refusal (indicationRules x (length out)) ≡ 0 = sym (c .before .before .before .before .before .before .refusal-of .ensures) ∙ c .before .before .before .before .before .if1 .left in
     let done = received (args .t) x out good in
     let chosen = choose (counted (args .t)) x in
-    let kind = c .before .before .before .before .interface-at .result .kind in
-    let link-is : c .before .before .before .before .before .link-of .result ≡ indexNumber chosen = c .before .before .before .before .before .link-of .ensures in
+    let kind = c .before .before .before .before .link-of .result .kind in
+    let link-is : c .before .before .before .before .link-of .result .index ≡ indexNumber chosen = c .before .before .before .before .link-of .ensures .0 in
     let kind-is : kind ≡ kindOf (args .t) chosen =
-    ap (λ (f : FixedSettings). f .kind) (c .before .before .before .before .interface-at .ensures)
+    c .before .before .before .before .link-of .ensures .1
     ∙ ap (λ (n : ℕ). interfaceAt (args .t) n .kind) link-is
     ∙ sym (kind-by-index (args .t) x) in
     let w = written kind x in
@@ -63,7 +59,7 @@ returns-2 c =
     let room = room-for x (length out) kind good in
     let length-is : c .before .before .write .result ≡ length (written (kindOf (args .t) chosen) x) =
     c .before .before .write .ensures .0 ∙ put-length w out room ∙ ap length w-is in
-    let reply-is : _≡_ {A = Reception} (record { number = 0; link = Link (record { 0 = c .before .before .before .before .before .link-of .result }); length = c .before .before .write .result; source = args .source; class = args .class }) (deliver (args .t) x out chosen .reply) =
+    let reply-is : _≡_ {A = Reception} (record { number = 0; link = Link (record { 0 = c .before .before .before .before .link-of .result .index }); length = c .before .before .write .result; source = args .source; class = args .class }) (deliver (args .t) x out chosen .reply) =
     λ i. record { number = 0; link = Link (record { 0 = link-is i }); length = length-is i; source = args .source; class = args .class } in (
       reply-is ∙ sym (ap (λ (r : Received). r .reply) done),
       c .before .before .write .ensures .1 ∙ put-all w out room ∙ ap (λ (v : List ℕ). v ++ drop (length v) out) w-is ∙ sym (ap (λ (r : Received). r .buffer) done),
@@ -76,7 +72,6 @@ indication-spec =
     refusal-of-requires
     returns
     link-of-requires
-    interface-at-requires
     write-requires
     same-length
     returns-2)

@@ -21,14 +21,14 @@ use Rattle.leaves.proofs.request.Statement.{statement}
 use Rattle.leaves.proofs.request.Tie as tie
 
 -- the packet is good, and the link enabled: multicast and neighbour decide
-passed : (c : tie.Else3) → refusal (requestRules (c .before .before .before .before .before .before .before .args .t) (request (c .before .before .before .before .before .before .before .args .index .0) (c .before .before .before .before .before .before .before .args .class) (c .before .before .before .before .before .before .before .args .neighbour) (c .before .before .before .before .before .before .before .args .packet .now))) ≡ refusal (resolveRules (c .before .before .before .before .before .before .before .args .t) (request (c .before .before .before .before .before .before .before .args .index .0) (c .before .before .before .before .before .before .before .args .class) (c .before .before .before .before .before .before .before .args .neighbour) (c .before .before .before .before .before .before .before .args .packet .now)))
+passed : (c : tie.Else3) → refusal (requestRules (c .before .before .before .before .before .before .before .before .args .t) (request (c .before .before .before .before .before .before .before .before .args .index .0) (c .before .before .before .before .before .before .before .before .args .class) (c .before .before .before .before .before .before .before .before .args .neighbour) (c .before .before .before .before .before .before .before .before .args .packet .now))) ≡ refusal (resolveRules (c .before .before .before .before .before .before .before .before .args .t) (request (c .before .before .before .before .before .before .before .before .args .index .0) (c .before .before .before .before .before .before .before .before .args .class) (c .before .before .before .before .before .before .before .before .args .neighbour) (c .before .before .before .before .before .before .before .before .args .packet .now)))
 unfolding requestRules
 passed c =
-    let p = c .before .before .before .before .before .before .before .args .packet .now in
-    rw (← c .before .before .before .before .before .neighbour-ok .ensures, c .before .before .before .before .if1 .left, ← c .before .before .before .is-enabled .ensures, c .before .before .if2 .left)
+    let p = c .before .before .before .before .before .before .before .before .args .packet .now in
+    rw (← c .before .before .before .before .before .before .neighbour-ok .ensures, c .before .before .before .before .before .if1 .left, ← c .before .before .before .before .link-at .ensures .0, c .before .before .if2 .left)
     (refusal-past (packetRules p) _ (packet-numbered p) (sym (c .before .refusal-of .ensures) ∙ c .if3 .left))
 
-multi : (c : tie.After-is-multicast) → multicast (destination (c .before .before .before .before .before .before .before .before .before .args .packet .now)) ≡ c .is-multicast .result
+multi : (c : tie.After-is-multicast) → multicast (destination (c .before .before .before .before .before .before .before .before .before .before .args .packet .now)) ≡ c .is-multicast .result
 multi c = sym (c .is-multicast .ensures ∙ ap multicast (c .before .destination-of .ensures))
 
 neighbour-ok-requires : tie.Need-neighbour-ok-requires
@@ -44,8 +44,8 @@ returns c =
     let q = (request (c .before .before .before .before .args .index .0) (c .before .before .before .before .args .class) (c .before .before .before .before .args .neighbour) (c .before .before .before .before .args .packet .now)) in
     c .refused .ensures ∙ sym (send-refused t q 1 (lit< tt) (rw (← c .before .before .neighbour-ok .ensures, c .before .if1 .taken)))
 
-is-enabled-requires : tie.Need-is-enabled-requires
-is-enabled-requires c κs = search needs
+link-at-requires : tie.Need-link-at-requires
+link-at-requires c κs = search needs
 
 refused-requires-2 : tie.Need-refused-requires-2
 refused-requires-2 c κs = search needs
@@ -53,10 +53,10 @@ refused-requires-2 c κs = search needs
 returns-2 : tie.Need-returns-2
 unfolding requestRules
 returns-2 c =
-    let t = c .before .before .before .before .before .before .args .t in
-    let q = (request (c .before .before .before .before .before .before .args .index .0) (c .before .before .before .before .before .before .args .class) (c .before .before .before .before .before .before .args .neighbour) (c .before .before .before .before .before .before .args .packet .now)) in
+    let t = c .before .before .before .before .before .before .before .args .t in
+    let q = (request (c .before .before .before .before .before .before .before .args .index .0) (c .before .before .before .before .before .before .before .args .class) (c .before .before .before .before .before .before .before .args .neighbour) (c .before .before .before .before .before .before .before .args .packet .now)) in
     c .refused2 .ensures
-    ∙ sym (send-refused t q 7 (lit< tt) (rw (← c .before .before .before .before .neighbour-ok .ensures, c .before .before .before .if1 .left, ← c .before .before .is-enabled .ensures, c .before .if2 .taken)))
+    ∙ sym (send-refused t q 7 (lit< tt) (rw (← c .before .before .before .before .before .neighbour-ok .ensures, c .before .before .before .before .if1 .left, ← c .before .before .before .link-at .ensures .0, c .before .if2 .taken)))
 
 refusal-of-requires : tie.Need-refusal-of-requires
 refusal-of-requires c κs = search needs
@@ -67,13 +67,13 @@ refused-requires-3 c κs = search needs
 returns-3 : tie.Need-returns-3
 unfolding requestRules
 returns-3 c =
-    let t = c .before .before .before .before .before .before .before .before .args .t in
-    let q = (request (c .before .before .before .before .before .before .before .before .args .index .0) (c .before .before .before .before .before .before .before .before .args .class) (c .before .before .before .before .before .before .before .before .args .neighbour) (c .before .before .before .before .before .before .before .before .args .packet .now)) in
+    let t = c .before .before .before .before .before .before .before .before .before .args .t in
+    let q = (request (c .before .before .before .before .before .before .before .before .before .args .index .0) (c .before .before .before .before .before .before .before .before .before .args .class) (c .before .before .before .before .before .before .before .before .before .args .neighbour) (c .before .before .before .before .before .before .before .before .before .args .packet .now)) in
     let bad = c .before .before .refusal-of in
     let some : 0 < bad .result = omega (arith, c .before .if3 .taken) in
     c .refused3 .ensures
     ∙ sym (send-refused t q (bad .result) some
-    (rw (← c .before .before .before .before .before .before .neighbour-ok .ensures, c .before .before .before .before .before .if1 .left, ← c .before .before .before .before .is-enabled .ensures, c .before .before .before .if2 .left)
+    (rw (← c .before .before .before .before .before .before .before .neighbour-ok .ensures, c .before .before .before .before .before .before .if1 .left, ← c .before .before .before .before .before .link-at .ensures .0, c .before .before .before .if2 .left)
     (refusal-more (packetRules (q .packet)) (resolveRules t q) (bad .result) some (sym (bad .ensures)))))
 
 destination-of-requires : tie.Need-destination-of-requires
@@ -91,8 +91,8 @@ refused-requires-4 c κs = search needs
 returns-4 : tie.Need-returns-4
 unfolding resolveRules
 returns-4 c =
-    let t = c .before .before .before .before .before .before .before .before .before .before .before .before .before .before .args .t in
-    let q = (request (c .before .before .before .before .before .before .before .before .before .before .before .before .before .before .args .index .0) (c .before .before .before .before .before .before .before .before .before .before .before .before .before .before .args .class) (c .before .before .before .before .before .before .before .before .before .before .before .before .before .before .args .neighbour) (c .before .before .before .before .before .before .before .before .before .before .before .before .before .before .args .packet .now)) in
+    let t = c .before .before .before .before .before .before .before .before .before .before .before .before .before .before .before .args .t in
+    let q = (request (c .before .before .before .before .before .before .before .before .before .before .before .before .before .before .before .args .index .0) (c .before .before .before .before .before .before .before .before .before .before .before .before .before .before .before .args .class) (c .before .before .before .before .before .before .before .before .before .before .before .before .before .before .before .args .neighbour) (c .before .before .before .before .before .before .before .before .before .before .before .before .before .before .before .args .packet .now)) in
     c .refused4 .ensures
     ∙ sym (send-refused t q 11 (lit< tt) (passed (c .before .before .before .before .before .before .before) ∙ rw (multi (c .before .before .before .before .before), c .before .before .before .before .if4 .taken, ← c .before .before .is-unset .ensures, c .before .if5 .taken)))
 
@@ -102,13 +102,10 @@ sent-requires c κs = search needs
 returns-5 : tie.Need-returns-5
 unfolding resolveRules down
 returns-5 c =
-    let t = c .before .before .before .before .before .before .before .before .before .before .before .before .before .before .before .before .args .t in
-    let q = (request (c .before .before .before .before .before .before .before .before .before .before .before .before .before .before .before .before .args .index .0) (c .before .before .before .before .before .before .before .before .before .before .before .before .before .before .before .before .args .class) (c .before .before .before .before .before .before .before .before .before .before .before .before .before .before .before .before .args .neighbour) (c .before .before .before .before .before .before .before .before .before .before .before .before .before .before .before .before .args .packet .now)) in
+    let t = c .before .before .before .before .before .before .before .before .before .before .before .before .before .before .before .before .before .args .t in
+    let q = (request (c .before .before .before .before .before .before .before .before .before .before .before .before .before .before .before .before .before .args .index .0) (c .before .before .before .before .before .before .before .before .before .before .before .before .before .before .before .before .before .args .class) (c .before .before .before .before .before .before .before .before .before .before .before .before .before .before .before .before .before .args .neighbour) (c .before .before .before .before .before .before .before .before .before .before .before .before .before .before .before .before .before .args .packet .now)) in
     let ok : refusal (requestRules t q) ≡ 0 = passed (c .before .before .before .before .before .before .before .before .before) ∙ rw (multi (c .before .before .before .before .before .before .before), c .before .before .before .before .before .before .if4 .taken, ← c .before .before .before .before .is-unset .ensures, c .before .before .before .if5 .left) in
     c .sent .ensures ∙ sym (send-done t q ok ∙ rw (multi (c .before .before .before .before .before .before .before), c .before .before .before .before .before .before .if4 .taken, eq-eqb _ 0 (c .before .if6 .taken)))
-
-area-at-requires : tie.Need-area-at-requires
-area-at-requires c κs = search needs
 
 within-area-requires : tie.Need-within-area-requires
 within-area-requires c κs = search needs
@@ -121,12 +118,9 @@ unfolding resolveRules down
 returns-6 c =
     let t = c .before .before .before .before .before .before .before .before .before .before .before .before .before .before .before .before .before .before .args .t in
     let q = (request (c .before .before .before .before .before .before .before .before .before .before .before .before .before .before .before .before .before .before .args .index .0) (c .before .before .before .before .before .before .before .before .before .before .before .before .before .before .before .before .before .before .args .class) (c .before .before .before .before .before .before .before .before .before .before .before .before .before .before .before .before .before .before .args .neighbour) (c .before .before .before .before .before .before .before .before .before .before .before .before .before .before .before .before .before .before .args .packet .now)) in
-    let ok : refusal (requestRules t q) ≡ 0 = passed (c .before .before .before .before .before .before .before .before .before .before .before) ∙ rw (multi (c .before .before .before .before .before .before .before .before .before), c .before .before .before .before .before .before .before .before .if4 .taken, ← c .before .before .before .before .before .before .is-unset .ensures, c .before .before .before .before .before .if5 .left) in
-    rw (c .sent2 .ensures, c .before .within-area .ensures, c .before .before .area-at .ensures)
-    (sym (send-done t q ok ∙ rw (multi (c .before .before .before .before .before .before .before .before .before), c .before .before .before .before .before .before .before .before .if4 .taken, ne-eqb _ 0 (c .before .before .before .if6 .left))))
-
-interface-at-requires : tie.Need-interface-at-requires
-interface-at-requires c κs = search needs
+    let ok : refusal (requestRules t q) ≡ 0 = passed (c .before .before .before .before .before .before .before .before .before .before) ∙ rw (multi (c .before .before .before .before .before .before .before .before), c .before .before .before .before .before .before .before .if4 .taken, ← c .before .before .before .before .before .is-unset .ensures, c .before .before .before .before .if5 .left) in
+    rw (c .sent2 .ensures, c .before .within-area .ensures, c .before .before .before .before .before .before .before .before .before .before .before .before .before .before .link-at .ensures .2)
+    (sym (send-done t q ok ∙ rw (multi (c .before .before .before .before .before .before .before .before), c .before .before .before .before .before .before .before .if4 .taken, ne-eqb _ 0 (c .before .before .if6 .left))))
 
 neighbour-of-requires : tie.Need-neighbour-of-requires
 neighbour-of-requires c κs = search needs
@@ -146,20 +140,20 @@ refused-requires-5 c κs = search needs
 returns-7 : tie.Need-returns-7
 unfolding resolveRules down
 returns-7 c =
-    let t = c .before .before .before .before .before .before .before .before .before .before .before .before .before .before .before .before .args .t in
-    let q = (request (c .before .before .before .before .before .before .before .before .before .before .before .before .before .before .before .before .args .index .0) (c .before .before .before .before .before .before .before .before .before .before .before .before .before .before .before .before .args .class) (c .before .before .before .before .before .before .before .before .before .before .before .before .before .before .before .before .args .neighbour) (c .before .before .before .before .before .before .before .before .before .before .before .before .before .before .before .before .args .packet .now)) in
+    let t = c .before .before .before .before .before .before .before .before .before .before .before .before .before .before .before .before .before .args .t in
+    let q = (request (c .before .before .before .before .before .before .before .before .before .before .before .before .before .before .before .before .before .args .index .0) (c .before .before .before .before .before .before .before .before .before .before .before .before .before .before .before .before .before .args .class) (c .before .before .before .before .before .before .before .before .before .before .before .before .before .before .before .before .before .args .neighbour) (c .before .before .before .before .before .before .before .before .before .before .before .before .before .before .before .before .before .args .packet .now)) in
     let known : neighbourOf (interfaceAt t (q .index)) (q .neighbour) (q .packet) ≡ Known _ =
-    ap (λ (f : FixedSettings). neighbourOf f (q .neighbour) (q .packet)) (sym (c .before .before .before .before .before .interface-at .ensures)) ∙ sym (c .before .before .before .before .neighbour-of .ensures) ∙ c .before .before .m .given .1 in
+    ap (λ (f : FixedSettings). neighbourOf f (q .neighbour) (q .packet)) (sym (c .before .before .before .before .before .before .before .before .before .before .before .before .before .link-at .ensures .1)) ∙ sym (c .before .before .before .before .neighbour-of .ensures) ∙ c .before .before .m .given .1 in
     let ok : refusal (requestRules t q) ≡ 0 = passed (c .before .before .before .before .before .before .before .before .before) ∙ rw (multi (c .before .before .before .before .before .before .before), c .before .before .before .before .before .before .if4 .left, known) in
     c .sent3 .ensures ∙ sym (send-done t q ok ∙ rw (multi (c .before .before .before .before .before .before .before), c .before .before .before .before .before .before .if4 .left, known))
 
 returns-8 : tie.Need-returns-8
 unfolding resolveRules
 returns-8 c =
-    let t = c .before .before .before .before .before .before .before .before .before .before .before .before .before .before .before .args .t in
-    let q = (request (c .before .before .before .before .before .before .before .before .before .before .before .before .before .before .before .args .index .0) (c .before .before .before .before .before .before .before .before .before .before .before .before .before .before .before .args .class) (c .before .before .before .before .before .before .before .before .before .before .before .before .before .before .before .args .neighbour) (c .before .before .before .before .before .before .before .before .before .before .before .before .before .before .before .args .packet .now)) in
+    let t = c .before .before .before .before .before .before .before .before .before .before .before .before .before .before .before .before .args .t in
+    let q = (request (c .before .before .before .before .before .before .before .before .before .before .before .before .before .before .before .before .args .index .0) (c .before .before .before .before .before .before .before .before .before .before .before .before .before .before .before .before .args .class) (c .before .before .before .before .before .before .before .before .before .before .before .before .before .before .before .before .args .neighbour) (c .before .before .before .before .before .before .before .before .before .before .before .before .before .before .before .before .args .packet .now)) in
     let unknown : neighbourOf (interfaceAt t (q .index)) (q .neighbour) (q .packet) ≡ Unknown =
-    ap (λ (f : FixedSettings). neighbourOf f (q .neighbour) (q .packet)) (sym (c .before .before .before .before .interface-at .ensures)) ∙ sym (c .before .before .before .neighbour-of .ensures) ∙ c .before .enum-told .given .1 in
+    ap (λ (f : FixedSettings). neighbourOf f (q .neighbour) (q .packet)) (sym (c .before .before .before .before .before .before .before .before .before .before .before .before .link-at .ensures .1)) ∙ sym (c .before .before .before .neighbour-of .ensures) ∙ c .before .enum-told .given .1 in
     c .refused5 .ensures
     ∙ sym (send-refused t q 12 (lit< tt) (passed (c .before .before .before .before .before .before .before .before) ∙ rw (multi (c .before .before .before .before .before .before), c .before .before .before .before .before .if4 .left, unknown)))
 
@@ -170,7 +164,7 @@ request-spec =
     neighbour-ok-requires
     refused-requires
     returns
-    is-enabled-requires
+    link-at-requires
     refused-requires-2
     returns-2
     refusal-of-requires
@@ -183,11 +177,9 @@ request-spec =
     returns-4
     sent-requires
     returns-5
-    area-at-requires
     within-area-requires
     sent-requires-2
     returns-6
-    interface-at-requires
     neighbour-of-requires
     enum-known-m
     sent-requires-3

@@ -1,0 +1,199 @@
+// The benchmark: the proved layer and the C version replay the same day files, alternately, in one run. Of each the fastest of
+// several rounds counts. The cost of one kind of record is that of a day with many of them less that of the day without them.
+#include "day.h"
+
+int printf(const char *format, ...);
+void *malloc(usize n);
+struct timespec { long seconds, nanoseconds; };
+int clock_gettime(int clock, struct timespec *t);
+#define MONOTONIC 1
+
+enum { ROUNDS = 41, MANY = 500, ROOM = 1294, LARGEST = 4000000 };
+static const u64 NO_STOP = 1000;
+
+typedef u64 side(const u8 *input, usize length, u8 *out, usize room);
+struct cost { double c, proved; };
+static int wrong;
+
+static double now(void) {
+    struct timespec t;
+    clock_gettime(MONOTONIC, &t);
+    return (double)t.seconds * 1e9 + (double)t.nanoseconds;
+}
+
+static double time_of(side *replay, const struct day *d, int times) {
+    static u8 out[ROOM];
+    double before = now();
+    for (int i = 0; i < times; i++) replay(d->bytes, d->length, out, ROOM);
+    return (now() - before) / times;
+}
+
+// Both sides must answer alike and leave the same frame behind.
+static bool alike(const struct day *d) {
+    static u8 one[ROOM], two[ROOM];
+    memset(one, 0xaa, ROOM);
+    memset(two, 0xaa, ROOM);
+    u64 c = c_whole_day(d->bytes, d->length, one, ROOM);
+    u64 proved = gn6_whole_day(d->bytes, d->length, two, ROOM);
+    return c == proved && memcmp(one, two, ROOM) == 0;
+}
+
+#ifdef COUNT_COPIES
+// The same driver linked with copies.c counts copies of the table instead of time.
+u64 copies_of(side *replay, const struct day *d);
+
+static struct cost cost_of(const struct day *d) {
+    struct cost x = { (double)copies_of(c_whole_day, d), (double)copies_of(gn6_whole_day, d) };
+    return x;
+}
+
+static void print_row(const char *name, struct cost x) { printf("%-52s %9.0f %9.0f\n", name, x.c, x.proved); }
+#else
+// Nanoseconds for the whole day, as many times as make a millisecond.
+static struct cost cost_of(const struct day *d) {
+    struct cost best = { 1e18, 1e18 };
+    if (!alike(d)) wrong++;
+    int times = (int)(1e6 / (time_of(c_whole_day, d, 1) + 1)) + 1;
+    for (int i = 0; i < ROUNDS; i++) {
+        double c = time_of(c_whole_day, d, times);
+        double proved = time_of(gn6_whole_day, d, times);
+        if (c < best.c) best.c = c;
+        if (proved < best.proved) best.proved = proved;
+    }
+    return best;
+}
+
+static void print_row(const char *name, struct cost x) {
+    printf("%-52s %9.1f %9.1f %7.2f\n", name, x.c, x.proved, x.proved / x.c);
+}
+#endif
+
+static struct day new_day(u64 stops) {
+    struct day d = { malloc(LARGEST), 0 };
+    put_start(&d, 65);
+    for (u64 s = 0; s < stops; s++) put_enable(&d, s);
+    return d;
+}
+
+// What is appended to a day many times over: a record, or a few that belong together.
+enum work { AREA, PREFIX, SOURCE, TSB, REFUSED, UNICAST, MULTICAST, GROUP_TVL, FIXED, AGAIN, OWN_MID, DGVL_AREA, IN_AND_OUT };
+
+static void put_work(struct day *d, enum work w, u64 stop, usize length) {
+    static u8 p[1280];
+    make_packet(p, length, w == SOURCE ? stop : NO_STOP, w == PREFIX || w == UNICAST ? stop : NO_STOP);
+    if (w == REFUSED) p[8] = 0xff;
+    if (w == MULTICAST || w == GROUP_TVL) p[24] = 0xff;
+    switch (w) {
+    case AREA: put_indication(d, 3, stop, p, length); break;
+    case PREFIX: case SOURCE: case REFUSED: put_indication(d, 1, 0, p, length); break;
+    case TSB: put_indication(d, 4, 0, p, length); break;
+    case UNICAST: case MULTICAST: put_request(d, stop + 2, p, length); break;
+    case GROUP_TVL: put_request(d, 0, p, length); break;
+    case FIXED: put(d, 3), put(d, 0); break;
+    case AGAIN: put_start(d, 65); break;
+    case OWN_MID: put(d, 5), put(d, 0x020000000004); break;
+    case DGVL_AREA: put(d, 4), put(d, 0); break;
+    case IN_AND_OUT: put(d, 3), put(d, stop + 2), put_enable(d, stop); break;
+    }
+}
+
+// The cost of one piece of work on a table with some stops enabled.
+static struct cost one(enum work w, u64 stops, u64 stop, usize length) {
+    struct day d = new_day(stops);
+    struct cost without = cost_of(&d);
+    for (int i = 0; i < MANY; i++) put_work(&d, w, stop, length);
+    struct cost with = cost_of(&d);
+    struct cost x = { (with.c - without.c) / MANY, (with.proved - without.proved) / MANY };
+    return x;
+}
+
+// Reading alone: no start stands before the records, so each answers 16.
+static struct cost unread(u64 transport, usize length) {
+    static u8 p[1280];
+    struct day d = { malloc(LARGEST), 0 };
+    make_packet(p, length, 0, 0);
+    for (int i = 0; i < MANY; i++) put_indication(&d, transport, 0, p, length);
+    struct cost x = cost_of(&d);
+    x.c /= MANY;
+    x.proved /= MANY;
+    return x;
+}
+
+static void print_table_calls(void) {
+    struct day d = new_day(64);
+    print_row("start and 64 enables (the whole day)", cost_of(&d));
+    print_row("disable and enable, the last of 64", one(IN_AND_OUT, 64, 63, 40));
+    print_row("own MID, 64 enabled", one(OWN_MID, 64, 0, 40));
+    print_row("DGVL area cleared, 64 enabled", one(DGVL_AREA, 64, 0, 40));
+}
+
+static void print_indications(void) {
+    print_row("indication by area, the first of 64", one(AREA, 64, 0, 40));
+    print_row("indication by area, the last of 64", one(AREA, 64, 63, 40));
+    print_row("indication by area, none of 64", one(AREA, 64, NO_STOP, 40));
+    print_row("indication by prefix, the first of 64", one(PREFIX, 64, 0, 40));
+    print_row("indication by prefix, the last of 64", one(PREFIX, 64, 63, 40));
+    print_row("indication by prefix of the source, the last of 64", one(SOURCE, 64, 63, 40));
+    print_row("indication by prefix, none of 64", one(PREFIX, 64, NO_STOP, 40));
+    print_row("indication for all (TSB)", one(TSB, 64, 0, 40));
+    print_row("indication refused: source multicast", one(REFUSED, 64, 0, 40));
+}
+
+static void print_requests_and_reading(void) {
+    print_row("request, unicast on the last of 64", one(UNICAST, 64, 63, 40));
+    print_row("request, multicast on the last of 64", one(MULTICAST, 64, 63, 40));
+    print_row("request, multicast on the topological link", one(GROUP_TVL, 64, 0, 40));
+    print_row("request refused: no such link, 0 enabled", one(UNICAST, 0, 63, 40));
+    print_row("reading: indication by area before the start (16)", unread(3, 40));
+    print_row("reading: indication by prefix before the start (16)", unread(1, 40));
+    print_row("reading: second start (16)", one(AGAIN, 64, 0, 40));
+    print_row("reading: disable of link 0 (15)", one(FIXED, 64, 0, 40));
+}
+
+static void print_growth(void) {
+    static const u64 stops[4] = { 0, 1, 16, 64 };
+    static const char *by_area[4] = { "by area, none of 0", "by area, none of 1", "by area, none of 16", "by area, none of 64" };
+    static const char *by_prefix[4] = { "by prefix, none of 0", "by prefix, none of 1", "by prefix, none of 16", "by prefix, none of 64" };
+    for (int i = 0; i < 4; i++) print_row(by_area[i], one(AREA, stops[i], NO_STOP, 40));
+    for (int i = 0; i < 4; i++) print_row(by_prefix[i], one(PREFIX, stops[i], NO_STOP, 40));
+    print_row("TSB, packet of 40 bytes", one(TSB, 64, 0, 40));
+    print_row("TSB, packet of 640 bytes", one(TSB, 64, 0, 640));
+    print_row("TSB, packet of 1,280 bytes", one(TSB, 64, 0, 1280));
+    print_row("request, packet of 1,280 bytes", one(UNICAST, 64, 63, 1280));
+}
+
+// Days with a few bytes changed at random: both sides must answer alike there too.
+static void compare_damaged_days(int count) {
+    u64 seed = 1;
+    struct day d = new_day(5);
+    for (int w = AREA; w <= IN_AND_OUT; w++) put_work(&d, (enum work)w, (u64)w % 5, 40 + (usize)w);
+    struct day e = { malloc(LARGEST), d.length };
+    for (int i = 0; i < count; i++) {
+        memcpy(e.bytes, d.bytes, d.length);
+        for (int k = 0; k < 4; k++) {
+            seed = seed * 6364136223846793005UL + 1442695040888963407UL;
+            e.bytes[(seed >> 33) % d.length] = (u8)(k % 2 ? seed >> 25 : (seed >> 25) % 8);
+        }
+        e.length = i % 3 ? d.length : (seed >> 40) % d.length; // a third of them are cut
+        if (!alike(&e)) wrong++;
+    }
+    printf("%d damaged days compared\n", count);
+}
+
+int main(void) {
+#ifdef COUNT_COPIES
+    printf("%-52s %9s %9s\n", "copies of the table for one record", "C", "proved");
+#else
+    compare_damaged_days(20000);
+    printf("%-52s %9s %9s %7s\n", "one record, in nanoseconds", "C", "proved", "ratio");
+#endif
+    print_table_calls();
+    print_indications();
+    print_requests_and_reading();
+#ifndef COUNT_COPIES
+    printf("growth\n");
+    print_growth();
+    printf("days on which the two sides differ: %d\n", wrong);
+#endif
+    return wrong != 0;
+}

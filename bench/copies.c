@@ -1,0 +1,31 @@
+// Counts the copies of a table that each kind of record makes: the C library's memcpy, memmove and memset are replaced by ones
+// that count the calls for 2 KiB or more. A table has 2,864 bytes, and nothing else that is copied is as long.
+#include "day.h"
+
+int printf(const char *format, ...);
+static u64 copies;
+
+void *memcpy(void *to, const void *from, usize n) {
+    if (n >= 2048) copies++;
+    for (usize i = 0; i < n; i++) ((volatile u8 *)to)[i] = ((const u8 *)from)[i];
+    return to;
+}
+
+void *memmove(void *to, const void *from, usize n) {
+    if ((usize)to <= (usize)from) return memcpy(to, from, n);
+    if (n >= 2048) copies++;
+    while (n-- > 0) ((volatile u8 *)to)[n] = ((const u8 *)from)[n];
+    return to;
+}
+
+void *memset(void *to, int value, usize n) {
+    for (usize i = 0; i < n; i++) ((volatile u8 *)to)[i] = (u8)value;
+    return to;
+}
+
+u64 copies_of(u64 (*replay)(const u8 *, usize, u8 *, usize), const struct day *d) {
+    static u8 out[1294];
+    copies = 0;
+    replay(d->bytes, d->length, out, 1294);
+    return copies;
+}

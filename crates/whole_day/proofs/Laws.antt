@@ -1,0 +1,2 @@
+-- The laws of the day's definitions.
+pub mod Rest
