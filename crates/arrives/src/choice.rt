@@ -8,7 +8,7 @@ use slots::Wanted;
 use traffic::Destination;
 ghost use mathlib.Core.Path.{_≡_};
 ghost use Rattle.links.specs.Slots.{counted};
-ghost use Rattle.links.specs.Index.{interfaceAt};
+ghost use Rattle.slots.specs.Search.{chosen};
 ghost use Rattle.traffic.specs.Arrives.{indication, choose, indexNumber};
 
 // Settings for a question about the area alone.
@@ -28,7 +28,7 @@ fn of_area(a: Area) -> Settings
 
 // The link by its index, and its kind. The source MID and the class of the indication decide nothing.
 pub fn link_of(t: Table, transport: u8, d: Destination, packet: &[u8]) -> Chosen
-    ensures { λ r. ⌜ (r .index ≡ indexNumber (choose (counted t) (indication transport 0 0 d (now (packet .entry))))) × (r .kind ≡ interfaceAt t (r .index) .kind) ⌝ }
+    ensures { λ r. ⌜ r ≡ chosen t (indexNumber (choose (counted t) (indication transport 0 0 d (now (packet .entry))))) ⌝ }
 {
     let tvl = t.tvl;
     let dgvl = t.dgvl;

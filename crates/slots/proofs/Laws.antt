@@ -1,2 +1,3 @@
 -- The laws of slots that other crates cite.
 pub mod Kinds
+pub mod Whole

@@ -5,7 +5,8 @@ use links::LinkIndex;
 use links::Table;
 ghost use mathlib.Core.Path.{_≡_};
 ghost use Rattle.links.specs.Slots.{counted};
-ghost use Rattle.links.specs.Index.{enabledAt, interfaceAt, areaAt};
+ghost use Rattle.links.specs.Index.{enabledAt};
+ghost use Rattle.slots.specs.Search.{named};
 
 pub fn is_enabled(t: Table, index: LinkIndex) -> bool
     ensures { λ r. ⌜ r ≡ enabledAt (counted t) (index .0) ⌝ }
@@ -24,7 +25,7 @@ pub struct Named {
 // The link itself: its kind and flag, and its area. The topological link has no area, the dynamic link perhaps one. One function
 // gives them all because each function that reads a slot of its table copies the whole table.
 pub fn link_at(t: Table, index: LinkIndex) -> Named
-    ensures { λ r. ⌜ (r .enabled ≡ enabledAt (counted t) (index .0)) × (r .interface ≡ interfaceAt t (index .0)) × (r .area ≡ areaAt t (index .0)) ⌝ }
+    ensures { λ r. ⌜ r ≡ named t (index .0) ⌝ }
 {
     let i = index.0;
     if i == LinkIndex::TVL.0 {

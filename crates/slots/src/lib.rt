@@ -10,11 +10,9 @@ ghost use mathlib.Core.Path.{_≡_};
 ghost use mathlib.Core.List.{[]};
 ghost use mathlib.Core.Bool.{cond};
 ghost use Prim.Native.Nat.{_+_, _-_, min};
-ghost use lib.ListN.{getD};
-ghost use Rattle.links.specs.Slots.{free, counted, slotAt, any, place, unused};
-ghost use Rattle.links.specs.Index.{interfaceAt};
+ghost use Rattle.links.specs.Slots.{counted, slotAt, any, place, unused};
 ghost use Rattle.links.specs.Calls.{withSlot};
-ghost use Rattle.slots.specs.Search.{passes};
+ghost use Rattle.slots.specs.Search.{passes, found, chosen};
 
 // Which slot is looked for.
 pub enum Wanted {
@@ -62,7 +60,7 @@ pub struct Chosen {
 
 // The one loop. The kind comes with the place because each function that reads a slot of its table copies the whole table.
 pub fn find(t: Table, wanted: Wanted, s: Settings, address: &[u8]) -> Found
-    ensures { λ r. ⌜ (r .place ≡ place (passes wanted s (now (address .entry))) (counted t)) × (r .kind ≡ getD (counted t) (place (passes wanted s (now (address .entry))) (counted t)) free .settings .kind) ⌝ }
+    ensures { λ r. ⌜ r ≡ found t (place (passes wanted s (now (address .entry))) (counted t)) ⌝ }
 {
     let n = slot_count(t.max);
     let mut i: usize = 0;
@@ -97,7 +95,7 @@ pub fn has(t: Table, wanted: Wanted, s: Settings) -> bool
 
 // The link of the first slot that is wanted, or the dynamic link.
 pub fn link_or_dynamic(t: Table, wanted: Wanted, s: Settings, address: &[u8]) -> Chosen
-    ensures { λ r. ⌜ (r .index ≡ cond (any (passes wanted s (now (address .entry))) (counted t)) (place (passes wanted s (now (address .entry))) (counted t) + 2) 1) × (r .kind ≡ interfaceAt t (r .index) .kind) ⌝ }
+    ensures { λ r. ⌜ r ≡ chosen t (cond (any (passes wanted s (now (address .entry))) (counted t)) (place (passes wanted s (now (address .entry))) (counted t) + 2) 1) ⌝ }
 {
     let f = find(t, wanted, s, address);
     let dgvl = t.dgvl;

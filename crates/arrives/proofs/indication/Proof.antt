@@ -12,6 +12,7 @@ use Rattle.links.specs.Slots.{counted}
 use Rattle.links.specs.Index.{interfaceAt}
 use Rattle.traffic.specs.declared.Reception.{Reception}
 use Rattle.traffic.specs.Arrives.{Received, indication, indicationRules, byArea, byDestination, bySource, choose, kindOf, indexNumber, written, deliver}
+use Rattle.slots.proofs.Laws.Whole.{chosen-index, chosen-kind}
 use Rattle.traffic.proofs.Laws.Choice.{kind-by-index}
 use Rattle.traffic.proofs.Laws.Receive.{received-refused, received, room-for}
 use Rattle.arrives.proofs.indication.Statement.{statement}
@@ -49,9 +50,9 @@ returns-2 c =
     let done = received (args .t) x out good in
     let chosen = choose (counted (args .t)) x in
     let kind = c .before .before .before .before .link-of .result .kind in
-    let link-is : c .before .before .before .before .link-of .result .index ≡ indexNumber chosen = c .before .before .before .before .link-of .ensures .0 in
+    let link-is : c .before .before .before .before .link-of .result .index ≡ indexNumber chosen = chosen-index (args .t) (c .before .before .before .before .link-of .result) _ (c .before .before .before .before .link-of .ensures) in
     let kind-is : kind ≡ kindOf (args .t) chosen =
-    c .before .before .before .before .link-of .ensures .1
+    chosen-kind (args .t) (c .before .before .before .before .link-of .result) _ (c .before .before .before .before .link-of .ensures)
     ∙ ap (λ (n : ℕ). interfaceAt (args .t) n .kind) link-is
     ∙ sym (kind-by-index (args .t) x) in
     let w = written kind x in

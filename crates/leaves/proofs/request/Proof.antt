@@ -16,6 +16,7 @@ use Rattle.ipv6.proofs.Laws.Packet.{packet-numbered}
 use Rattle.links.specs.declared.FixedSettings.{FixedSettings}
 use Rattle.links.specs.Index.{interfaceAt}
 use Rattle.traffic.specs.Leaves.{request, neighbourOf, resolveRules, requestRules, down}
+use Rattle.slots.proofs.Laws.Whole.{named-enabled, named-interface, named-area}
 use Rattle.traffic.proofs.Laws.Send.{send-refused, send-done}
 use Rattle.leaves.proofs.request.Statement.{statement}
 use Rattle.leaves.proofs.request.Tie as tie
@@ -25,7 +26,7 @@ passed : (c : tie.Else3) → refusal (requestRules (c .before .before .before .b
 unfolding requestRules
 passed c =
     let p = c .before .before .before .before .before .before .before .before .args .packet .now in
-    rw (← c .before .before .before .before .before .before .neighbour-ok .ensures, c .before .before .before .before .before .if1 .left, ← c .before .before .before .before .link-at .ensures .0, c .before .before .if2 .left)
+    rw (← c .before .before .before .before .before .before .neighbour-ok .ensures, c .before .before .before .before .before .if1 .left, ← named-enabled _ (c .before .before .before .before .link-at .result) _ (c .before .before .before .before .link-at .ensures), c .before .before .if2 .left)
     (refusal-past (packetRules p) _ (packet-numbered p) (sym (c .before .refusal-of .ensures) ∙ c .if3 .left))
 
 multi : (c : tie.After-is-multicast) → multicast (destination (c .before .before .before .before .before .before .before .before .before .before .args .packet .now)) ≡ c .is-multicast .result
@@ -56,7 +57,7 @@ returns-2 c =
     let t = c .before .before .before .before .before .before .before .args .t in
     let q = (request (c .before .before .before .before .before .before .before .args .index .0) (c .before .before .before .before .before .before .before .args .class) (c .before .before .before .before .before .before .before .args .neighbour) (c .before .before .before .before .before .before .before .args .packet .now)) in
     c .refused2 .ensures
-    ∙ sym (send-refused t q 7 (lit< tt) (rw (← c .before .before .before .before .before .neighbour-ok .ensures, c .before .before .before .before .if1 .left, ← c .before .before .before .link-at .ensures .0, c .before .if2 .taken)))
+    ∙ sym (send-refused t q 7 (lit< tt) (rw (← c .before .before .before .before .before .neighbour-ok .ensures, c .before .before .before .before .if1 .left, ← named-enabled _ (c .before .before .before .link-at .result) _ (c .before .before .before .link-at .ensures), c .before .if2 .taken)))
 
 refusal-of-requires : tie.Need-refusal-of-requires
 refusal-of-requires c κs = search needs
@@ -73,7 +74,7 @@ returns-3 c =
     let some : 0 < bad .result = omega (arith, c .before .if3 .taken) in
     c .refused3 .ensures
     ∙ sym (send-refused t q (bad .result) some
-    (rw (← c .before .before .before .before .before .before .before .neighbour-ok .ensures, c .before .before .before .before .before .before .if1 .left, ← c .before .before .before .before .before .link-at .ensures .0, c .before .before .before .if2 .left)
+    (rw (← c .before .before .before .before .before .before .before .neighbour-ok .ensures, c .before .before .before .before .before .before .if1 .left, ← named-enabled _ (c .before .before .before .before .before .link-at .result) _ (c .before .before .before .before .before .link-at .ensures), c .before .before .before .if2 .left)
     (refusal-more (packetRules (q .packet)) (resolveRules t q) (bad .result) some (sym (bad .ensures)))))
 
 destination-of-requires : tie.Need-destination-of-requires
@@ -119,7 +120,7 @@ returns-6 c =
     let t = c .before .before .before .before .before .before .before .before .before .before .before .before .before .before .before .before .before .before .args .t in
     let q = (request (c .before .before .before .before .before .before .before .before .before .before .before .before .before .before .before .before .before .before .args .index .0) (c .before .before .before .before .before .before .before .before .before .before .before .before .before .before .before .before .before .before .args .class) (c .before .before .before .before .before .before .before .before .before .before .before .before .before .before .before .before .before .before .args .neighbour) (c .before .before .before .before .before .before .before .before .before .before .before .before .before .before .before .before .before .before .args .packet .now)) in
     let ok : refusal (requestRules t q) ≡ 0 = passed (c .before .before .before .before .before .before .before .before .before .before) ∙ rw (multi (c .before .before .before .before .before .before .before .before), c .before .before .before .before .before .before .before .if4 .taken, ← c .before .before .before .before .before .is-unset .ensures, c .before .before .before .before .if5 .left) in
-    rw (c .sent2 .ensures, c .before .within-area .ensures, c .before .before .before .before .before .before .before .before .before .before .before .before .before .before .link-at .ensures .2)
+    rw (c .sent2 .ensures, c .before .within-area .ensures, named-area _ (c .before .before .before .before .before .before .before .before .before .before .before .before .before .before .link-at .result) _ (c .before .before .before .before .before .before .before .before .before .before .before .before .before .before .link-at .ensures))
     (sym (send-done t q ok ∙ rw (multi (c .before .before .before .before .before .before .before .before), c .before .before .before .before .before .before .before .if4 .taken, ne-eqb _ 0 (c .before .before .if6 .left))))
 
 neighbour-of-requires : tie.Need-neighbour-of-requires
@@ -143,7 +144,7 @@ returns-7 c =
     let t = c .before .before .before .before .before .before .before .before .before .before .before .before .before .before .before .before .before .args .t in
     let q = (request (c .before .before .before .before .before .before .before .before .before .before .before .before .before .before .before .before .before .args .index .0) (c .before .before .before .before .before .before .before .before .before .before .before .before .before .before .before .before .before .args .class) (c .before .before .before .before .before .before .before .before .before .before .before .before .before .before .before .before .before .args .neighbour) (c .before .before .before .before .before .before .before .before .before .before .before .before .before .before .before .before .before .args .packet .now)) in
     let known : neighbourOf (interfaceAt t (q .index)) (q .neighbour) (q .packet) ≡ Known _ =
-    ap (λ (f : FixedSettings). neighbourOf f (q .neighbour) (q .packet)) (sym (c .before .before .before .before .before .before .before .before .before .before .before .before .before .link-at .ensures .1)) ∙ sym (c .before .before .before .before .neighbour-of .ensures) ∙ c .before .before .m .given .1 in
+    ap (λ (f : FixedSettings). neighbourOf f (q .neighbour) (q .packet)) (sym (named-interface _ (c .before .before .before .before .before .before .before .before .before .before .before .before .before .link-at .result) _ (c .before .before .before .before .before .before .before .before .before .before .before .before .before .link-at .ensures))) ∙ sym (c .before .before .before .before .neighbour-of .ensures) ∙ c .before .before .m .given .1 in
     let ok : refusal (requestRules t q) ≡ 0 = passed (c .before .before .before .before .before .before .before .before .before) ∙ rw (multi (c .before .before .before .before .before .before .before), c .before .before .before .before .before .before .if4 .left, known) in
     c .sent3 .ensures ∙ sym (send-done t q ok ∙ rw (multi (c .before .before .before .before .before .before .before), c .before .before .before .before .before .before .if4 .left, known))
 
@@ -153,7 +154,7 @@ returns-8 c =
     let t = c .before .before .before .before .before .before .before .before .before .before .before .before .before .before .before .before .args .t in
     let q = (request (c .before .before .before .before .before .before .before .before .before .before .before .before .before .before .before .before .args .index .0) (c .before .before .before .before .before .before .before .before .before .before .before .before .before .before .before .before .args .class) (c .before .before .before .before .before .before .before .before .before .before .before .before .before .before .before .before .args .neighbour) (c .before .before .before .before .before .before .before .before .before .before .before .before .before .before .before .before .args .packet .now)) in
     let unknown : neighbourOf (interfaceAt t (q .index)) (q .neighbour) (q .packet) ≡ Unknown =
-    ap (λ (f : FixedSettings). neighbourOf f (q .neighbour) (q .packet)) (sym (c .before .before .before .before .before .before .before .before .before .before .before .before .link-at .ensures .1)) ∙ sym (c .before .before .before .neighbour-of .ensures) ∙ c .before .enum-told .given .1 in
+    ap (λ (f : FixedSettings). neighbourOf f (q .neighbour) (q .packet)) (sym (named-interface _ (c .before .before .before .before .before .before .before .before .before .before .before .before .link-at .result) _ (c .before .before .before .before .before .before .before .before .before .before .before .before .link-at .ensures))) ∙ sym (c .before .before .before .neighbour-of .ensures) ∙ c .before .enum-told .given .1 in
     c .refused5 .ensures
     ∙ sym (send-refused t q 12 (lit< tt) (passed (c .before .before .before .before .before .before .before .before) ∙ rw (multi (c .before .before .before .before .before .before), c .before .before .before .before .before .if4 .left, unknown)))
 

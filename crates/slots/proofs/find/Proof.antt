@@ -10,6 +10,7 @@ use Rattle.links.specs.Slots.{free, counted, place}
 use Rattle.links.proofs.Laws.Counted.{counted-length, counted-at, any-default, beyond}
 use Rattle.links.proofs.Laws.Search.{Looking, start, hit, pass, end}
 use Rattle.slots.specs.Search.{passes}
+use Rattle.slots.proofs.Laws.Whole.{found-is}
 use Rattle.slots.proofs.find.Statement.{statement}
 use Rattle.slots.proofs.find.Tie as tie
 
@@ -49,11 +50,10 @@ returns c =
     let within : l .i < length (counted (args .t1)) = omega arith in
     let here : l .i ≡ place q (counted (args .t1)) =
     hit q (counted (args .t1)) (l .inv) _ (omega arith)
-    (ap q (counted-at (args .t1) (l .i) _ within) ∙ sym (c .before .before .is-wanted .ensures) ∙ c .before .if1 .taken) in (
-      here,
-      ap kind-of (any-default (args .t1 .slots) (l .i) _ free (omega (arith, all)) ∙ sym (counted-at (args .t1) (l .i) free within))
-          ∙ ap (λ (k : ℕ). kind-of (getD (counted (args .t1)) k free)) here,
-    )
+    (ap q (counted-at (args .t1) (l .i) _ within) ∙ sym (c .before .before .is-wanted .ensures) ∙ c .before .if1 .taken) in
+    found-is (args .t1) _ _ here
+    (ap kind-of (any-default (args .t1 .slots) (l .i) _ free (omega (arith, all)) ∙ sym (counted-at (args .t1) (l .i) free within))
+    ∙ ap (λ (k : ℕ). kind-of (getD (counted (args .t1)) k free)) here)
 
 add-i : tie.Need-add-i Inv-loop μ-loop
 add-i c = omega arith
@@ -75,7 +75,7 @@ returns-2 c =
     let l = counted (args .t1) in
     let q = passes (args .wanted) (args .s) (args .address .now) in
     let past : c .before .loop .i ≡ place q l = end q l (c .before .loop .inv) free (omega arith) in
-    (past, sym (ap kind-of (beyond l (place q l) (omega (arith, past)))))
+    found-is (args .t1) _ _ past (sym (ap kind-of (beyond l (place q l) (omega (arith, past)))))
 
 pub find-spec : {M : Type 1} → statement M
 find-spec =

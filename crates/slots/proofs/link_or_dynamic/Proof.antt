@@ -1,14 +1,14 @@
 -- `slots::link_or_dynamic` meets its contract.
-use Prim.Native.Nat.{ℕ}
-use mathlib.Core.Path.{_≡_, sym, _∙_, ap}
+use mathlib.Core.Path.{_≡_, sym, _∙_}
 use lib.ListN.{length, getD}
 use borrow.Author.Tests.{lt-ltb, le-ltb}
 use borrow.Author.Needs.{needs}
 use Rattle.octets.proofs.Laws.Runs.{length-mapped}
-use Rattle.links.specs.Slots.{free, counted}
+use Rattle.links.specs.Slots.{free, counted, place}
 use Rattle.links.proofs.Laws.Counted.{counted-length}
 use Rattle.links.proofs.Laws.Search.{any-place}
 use Rattle.slots.specs.Search.{passes}
+use Rattle.slots.proofs.Laws.Whole.{chosen-is}
 use Rattle.slots.proofs.Laws.Kinds.{dynamic-kind, stop-kind}
 use Rattle.slots.proofs.link_or_dynamic.Statement.{statement}
 use Rattle.slots.proofs.link_or_dynamic.Tie as tie
@@ -32,18 +32,19 @@ returns : tie.Need-returns
 returns c =
     let args = c .before .before .before .before .before .before .before .args in
     let q = passes (args .wanted) (args .s) (args .address .now) in
-    let found = c .before .before .before .before .before .find in (
-      rw (any-place q (counted (args .t)), count (c .before .before .before), ← found .ensures .0, lt-ltb _ _ (c .before .if1 .taken)),
-      found .ensures .1 ∙ ap (λ (k : ℕ). getD (counted (args .t)) k free .settings .kind) (sym (found .ensures .0)) ∙ sym (stop-kind (args .t) (found .result .place)),
-    )
+    let r = c .before .before .before .before .before .find in
+    let place-is : r .result .place ≡ place q (counted (args .t)) = rw (r .ensures) in
+    let kind-is : r .result .kind ≡ getD (counted (args .t)) (r .result .place) free .settings .kind = rw (r .ensures) in
+    chosen-is (args .t) _ _
+    (rw (any-place q (counted (args .t)), count (c .before .before .before), ← place-is, lt-ltb _ _ (c .before .if1 .taken)))
+    (kind-is ∙ sym (stop-kind (args .t) (r .result .place)))
 
 returns-2 : tie.Need-returns-2
 returns-2 c =
     let args = c .before .before .before .before .before .before .args in
-    let q = passes (args .wanted) (args .s) (args .address .now) in (
-      rw (any-place q (counted (args .t)), count (c .before .before), ← c .before .before .before .before .find .ensures .0, le-ltb _ _ (c .if1 .left)),
-      dynamic-kind (args .t),
-    )
+    let q = passes (args .wanted) (args .s) (args .address .now) in
+    let place-is : c .before .before .before .before .find .result .place ≡ place q (counted (args .t)) = rw (c .before .before .before .before .find .ensures) in
+    chosen-is (args .t) _ _ (rw (any-place q (counted (args .t)), count (c .before .before), ← place-is, le-ltb _ _ (c .if1 .left))) (dynamic-kind (args .t))
 
 pub link-or-dynamic-spec : {M : Type 1} → statement M
 link-or-dynamic-spec =
