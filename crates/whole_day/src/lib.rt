@@ -1,5 +1,6 @@
 // A whole day file replayed in one call, for C to link: what the benchmark times. The answer is a checksum over the replies,
 // so that two programs that agree in it agree in every line of the listing.
+use dayfile::records;
 use links::FixedSettings;
 use links::PerhapsLink;
 use links::Table;
@@ -56,17 +57,27 @@ pub extern "C" fn gn6_whole_day(input: &[u8], out: &mut [u8]) -> u64
     let mut sum: u64 = 0;
     let mut turns: usize = input.len();
     while 0 < turns && at < input.len() {
-        let s = replay::one_record(started, t, input, at, out);
-        let link = s.link;
-        sum = line_sum(sum, s.number, link, s.length);
-        if s.number == replies::RECORD_BROKEN {
+        let r = records::read(input, at);
+        let call = r.call;
+        turns -= 1;
+        if replay::alters(started, call) {
+            let prefix = r.prefix;
+            let a = replay::altered(t, prefix, call);
+            let link = a.link;
+            let table = a.table;
+            sum = line_sum(sum, a.number, link, 0);
+            t = table;
+            started = a.started;
+            at = r.next;
+            continue;
+        }
+        let l = replay::line_of(started, t, input, out, r);
+        let link = l.link;
+        sum = line_sum(sum, l.number, link, l.length);
+        if r.next == at {
             return sum;
         }
-        let table = s.table;
-        t = table;
-        started = s.started;
-        at = s.next;
-        turns -= 1;
+        at = r.next;
     }
     sum
 }
