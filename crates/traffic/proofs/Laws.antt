@@ -5,3 +5,4 @@ pub mod Choice
 pub mod Receive
 pub mod Send
 pub mod Demands
+pub mod SwitchedOn

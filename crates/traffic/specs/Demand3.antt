@@ -10,6 +10,7 @@ use Rattle.links.specs.declared.Slot.{Slot}
 use Rattle.links.specs.declared.Table.{Table}
 use Rattle.links.specs.Settings.{Same, reaches}
 use Rattle.links.specs.Slots.{Has, counted}
+use Rattle.links.specs.Calls.{enable, reply}
 use Rattle.links.specs.Reached.{Reached}
 use Rattle.traffic.specs.Arrives.{Indication, Received, topological, dynamic, stop, at, nowhere, stopBy, byDestination, bySource, indexOf, receive, Promised}
 use Rattle.traffic.specs.declared.Reception.{Reception}
@@ -74,3 +75,11 @@ Demand3OfCalls =
     (t u : Table) → Wider t u → (x : Indication) (buffer : List ℕ)
     → (r₁ r₂ : Reception) (b₁ b₂ : List ℕ) → Promised t x buffer r₁ b₁ → Promised u x buffer r₂ b₂
     → Follows t u x buffer (record { reply = r₁; buffer = b₁ }) (record { reply = r₂; buffer = b₂ })
+
+-- a stop switched on at noon: an enable, whether it is refused or not, leaves a wider table, so that what demand 3 says holds
+-- between the table before it and the table behind it
+unfoldable pub SwitchedOn : Type 0
+SwitchedOn =
+    (most : ℕ) (memory : List Slot) (t : Table) → Reached most memory t → (s : Settings)
+    → Wider t (reply t (enable s) .table)
+    × ((x : Indication) (buffer : List ℕ) → Follows t (reply t (enable s) .table) x buffer (receive t x buffer) (receive (reply t (enable s) .table) x buffer))
