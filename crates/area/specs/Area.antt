@@ -1,6 +1,5 @@
 -- Document 01, Area: which areas are good, and which two are the same.
-use Prim.Native.Nat.{ℕ}
-use mathlib.Core.Bool.{Bool, true, false, _&&_, _||_}
+use mathlib.Core.Bool.{Bool, false, _&&_, _||_}
 use lib.IntN.{ℤ, pos, negsuc, negℤ}
 use lib.Dec.{eqb, leb}
 use lib.Signed.{leZ}

@@ -1,7 +1,7 @@
 -- Document 01, What arrives: an Ethernet frame, and a lent buffer after something is written at its front.
 use Prim.Native.Nat.{ℕ}
 use mathlib.Core.Bool.{cond}
-use mathlib.Core.List.{List, [], _∷_, _++_}
+use mathlib.Core.List.{List, _∷_, _++_}
 use lib.Dec.{ltb}
 use lib.ListN.{length, drop}
 use Rattle.octets.specs.Digits.{mac}

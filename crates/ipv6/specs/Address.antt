@@ -10,10 +10,14 @@ use Rattle.octets.specs.Runs.{same}
 unfoldable pub multicast : List ℕ → Bool
 multicast a = eqb (getD a 0 0) 0xff
 
+-- fifteen zeros and a last byte
+abbrev pub zerosThen : ℕ → List ℕ
+zerosThen last = replicate 15 0 ++ last ∷ []
+
 -- ::1
-unfoldable pub loopback : List ℕ → Bool
-loopback a = same a (replicate 15 0 ++ 1 ∷ [])
+abbrev pub loopback : List ℕ → Bool
+loopback a = same a (zerosThen 1)
 
 -- ::
-unfoldable pub unspecified : List ℕ → Bool
-unspecified a = same a (replicate 16 0)
+abbrev pub unspecified : List ℕ → Bool
+unspecified a = same a (zerosThen 0)

@@ -2,8 +2,9 @@
 ghost use mathlib.Core.Path.{_≡_};
 ghost use Prim.Native.Nat.{_≤_};
 ghost use lib.ListN.{length};
+ghost use Rattle.octets.specs.Runs.{same};
 ghost use Rattle.replies.specs.Rules.{refusal};
-ghost use Rattle.ipv6.specs.Address.{multicast, loopback, unspecified};
+ghost use Rattle.ipv6.specs.Address.{multicast, zerosThen, loopback, unspecified};
 ghost use Rattle.ipv6.specs.Packet.{source, destination, malformed, forbidden, packetRules};
 ghost use Rattle.ipv6.specs.Identifier.{flipped, identifier, linkLocal, midOf};
 
@@ -12,10 +13,6 @@ pub enum PerhapsMid {
     Mid(u64),
     Nothing,
 }
-
-const LOOPBACK: [u8; 16] = [0, 0, 0, 0, 0, 0, 0, 0, 0, 0, 0, 0, 0, 0, 0, 1];
-
-const UNSPECIFIED: [u8; 16] = [0, 0, 0, 0, 0, 0, 0, 0, 0, 0, 0, 0, 0, 0, 0, 0];
 
 pub fn is_multicast(address: &[u8]) -> bool
     ensures { λ r. ⌜ r ≡ multicast (now (address .entry)) ⌝ }
@@ -26,18 +23,24 @@ pub fn is_multicast(address: &[u8]) -> bool
     address[0] == 0xff
 }
 
+// Fifteen zeros and this last byte.
+fn is_zeros_then(address: &[u8], last: u8) -> bool
+    ensures { λ r. ⌜ r ≡ same (now (address .entry)) (zerosThen last) ⌝ }
+{
+    let whole = [0, 0, 0, 0, 0, 0, 0, 0, 0, 0, 0, 0, 0, 0, 0, last];
+    octets::equal(address, &whole)
+}
+
 pub fn is_loopback(address: &[u8]) -> bool
     ensures { λ r. ⌜ r ≡ loopback (now (address .entry)) ⌝ }
 {
-    let one = LOOPBACK;
-    octets::equal(address, &one)
+    is_zeros_then(address, 1)
 }
 
 pub fn is_unspecified(address: &[u8]) -> bool
     ensures { λ r. ⌜ r ≡ unspecified (now (address .entry)) ⌝ }
 {
-    let zeros = UNSPECIFIED;
-    octets::equal(address, &zeros)
+    is_zeros_then(address, 0)
 }
 
 pub fn source_of(packet: &[u8]) -> &[u8]

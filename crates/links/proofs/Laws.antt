@@ -5,5 +5,6 @@ pub mod Counted
 pub mod Replies
 pub mod Slots
 pub mod Settings
+pub mod Replaced
 pub mod Sound
 pub mod Demands

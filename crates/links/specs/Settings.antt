@@ -10,7 +10,7 @@ use Rattle.prefix.specs.Prefix.{holds, overlap, goodPrefix}
 use Rattle.links.specs.declared.Settings.{Settings}
 
 -- MID: 48 bits
-unfoldable pub midOk : ℕ → Bool
+abbrev pub midOk : ℕ → Bool
 midOk m = ltb m (2 ^ 48)
 
 -- kinds: 1 Ethernet LAN, 2 NBMA, 3 point-to-point; flag: 0 or 1

@@ -3,12 +3,10 @@
 use Prim.Native.Nat.{ℕ}
 use mathlib.Core.Path.{_≡_}
 use mathlib.Core.Logic.{_≢_}
-use mathlib.Core.Bool.{true, not, _&&_}
+use mathlib.Core.Bool.{true}
 use mathlib.Core.List.{List}
-use lib.Dec.{eqb}
 use lib.ListN.{length, take, drop}
 use Rattle.replies.specs.Rules.{Exact}
-use Rattle.ipv6.specs.Address.{multicast}
 use Rattle.ipv6.specs.Packet.{destination}
 use Rattle.ipv6.specs.Identifier.{linkLocal}
 use Rattle.links.specs.declared.PerhapsLink.the-variants.{Nothing as NoLink}

@@ -5,7 +5,6 @@ use mathlib.Core.List.{List, [], _++_}
 use lib.Dec.{eqb}
 use lib.ListN.{length, replicate}
 use Rattle.replies.specs.Rules.{Rule, _if_, _then_, refusal}
-use Rattle.area.specs.declared.Area.{Area}
 use Rattle.ipv6.specs.declared.PerhapsMid.{PerhapsMid}
 use Rattle.ipv6.specs.declared.PerhapsMid.the-variants.{Mid as Known, Nothing as Unknown}
 use Rattle.ipv6.specs.Address.{multicast}

@@ -1,5 +1,4 @@
 -- Document 01's cases at the edges that are marked *: one test computes every row, and one law turns it into the statement.
-use Prim.Native.Nat.{ℕ}
 use mathlib.Core.Path.{_≡_, refl}
 use mathlib.Core.Bool.{Bool, true, false, _&&_}
 use mathlib.Core.List.{List, [], _∷_}
@@ -9,10 +8,10 @@ use Rattle.octets.specs.Runs.{same, allZero}
 use Rattle.octets.proofs.Laws.Runs.{same-true}
 use Rattle.area.specs.Area.{goodArea, sameArea}
 use Rattle.prefix.specs.Prefix.{agrees, holdsPrefix, overlap, goodPrefix}
-use Rattle.links.specs.Settings.{midOk, interfaceOk, settingsRules, sameGround, overlaps}
+use Rattle.links.specs.Settings.{interfaceOk, settingsRules, sameGround, overlaps}
 use Rattle.links.specs.Slots.{any, place}
 use Rattle.links.specs.Calls.{slotRules, rules, linkAfter, tableAfter, reply, startRules, cleared, fresh, start}
-use Rattle.ipv6.specs.Address.{multicast, loopback, unspecified}
+use Rattle.ipv6.specs.Address.{multicast}
 use Rattle.ipv6.specs.Packet.{malformed, forbidden, packetRules}
 use Rattle.ipv6.specs.Identifier.{flipped, identifier, linkLocal, fromMac, midOfIdentifier, midOf}
 use Rattle.edge_rows.specs.Rows.{Row, Hold, rows, Edges}
@@ -32,5 +31,5 @@ by-test (r ∷ rs) h = step (same (r .got) (r .want)) refl (by-test rs) h
     step false e f h = absurd h
 
 pub edges : Edges
-unfolding Edges rows test same allZero digits number bits goodArea sameArea agrees holdsPrefix overlap goodPrefix midOk interfaceOk settingsRules sameGround overlaps any place slotRules rules linkAfter tableAfter reply startRules cleared fresh start multicast loopback unspecified malformed forbidden packetRules flipped identifier linkLocal fromMac midOfIdentifier midOf
+unfolding Edges rows test same allZero digits number bits goodArea sameArea agrees holdsPrefix overlap goodPrefix interfaceOk settingsRules sameGround overlaps any place slotRules rules linkAfter tableAfter reply startRules cleared fresh start multicast malformed forbidden packetRules flipped identifier linkLocal fromMac midOfIdentifier midOf
 edges = by-test rows tt

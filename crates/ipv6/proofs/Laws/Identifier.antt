@@ -4,16 +4,15 @@ use native.Mathlib.Nat.{mod-eq-of-lt}
 use native.Mathlib.Omega.{arith}
 use mathlib.Core.Path.{_≡_, refl, sym, _∙_, ap}
 use mathlib.Core.Logic.{_↔_, _≢_}
-use mathlib.Core.Bool.{Bool, true, false, cond, _&&_, and-eq-true-iff}
+use mathlib.Core.Bool.{Bool, true, false, cond, and-eq-true-iff}
 use mathlib.Core.List.{List, [], _∷_, _++_}
-use lib.Dec.{eqb, lit<, lit≤}
-use lib.ListN.{length, getD, take, drop, length-drop}
+use lib.Dec.{eqb, lit<}
+use lib.ListN.{length, getD, drop, length-drop}
 use lib.Seq.{take-all, drop-drop, getD-drop}
 use borrow.Author.Tests.{eqb-true, eqb-false, eq-eqb, ne-eqb}
-use Rattle.octets.specs.Digits.{digits, number, bigEndian, mac}
+use Rattle.octets.specs.Digits.{digits, bigEndian, mac}
 use Rattle.octets.proofs.Laws.Runs.{spread, part-spread}
 use Rattle.octets.proofs.Laws.Digits.{Below, below-append, below-spread, number-digits, digits-number, number-below}
-use Rattle.ipv6.specs.declared.PerhapsMid.{PerhapsMid}
 use Rattle.ipv6.specs.declared.PerhapsMid.the-variants.{Mid, Nothing}
 use Rattle.ipv6.specs.Identifier.{flipped, firstFlipped, identifier, linkLocal, fromMac, midOfIdentifier, midOf}
 

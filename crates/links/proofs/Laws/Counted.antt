@@ -2,9 +2,9 @@
 use Prim.Native.Nat.{ℕ, zero, suc, _-_, _≤_, _<_, min}
 use native.Mathlib.Omega.{arith}
 use mathlib.Core.Path.{_≡_, refl, _∙_, ap}
-use mathlib.Core.Bool.{true, false}
+use mathlib.Core.Bool.{true}
 use mathlib.Core.List.{List, [], _∷_}
-use lib.ListN.{length, take, getD, set, length-take, List·getD-eq-default}
+use lib.ListN.{length, getD, length-take, List·getD-eq-default}
 use lib.Seq.{getD-take}
 use Rattle.octets.proofs.Laws.Tests.{clash}
 use Rattle.links.specs.declared.Slot.{Slot}

@@ -1,9 +1,9 @@
 -- Demands 1 and 2 for the calls that alter the table.
-use Prim.Native.Nat.{ℕ, zero, suc, _+_, _-_, _≤_, _<_}
+use Prim.Native.Nat.{ℕ, zero, suc, _-_, _≤_, _<_}
 use native.Mathlib.Omega.{arith}
 use mathlib.Core.Path.{_≡_, refl, sym, _∙_, ap, subst}
 use mathlib.Core.Logic.{_≢_}
-use mathlib.Core.Bool.{Bool, true, false}
+use mathlib.Core.Bool.{true}
 use mathlib.Core.List.{List}
 use lib.Dec.{lit<}
 use lib.ListN.{length, getD, set, replicate}
@@ -20,7 +20,7 @@ use Rattle.links.specs.declared.Table.{Table}
 use Rattle.links.specs.Settings.{settingsRules}
 use Rattle.links.specs.Slots.{free, inUse, counted, slotAt, any, place, unused}
 use Rattle.links.specs.Calls.{Call, enable, disable, setArea, setOwn, slotRules, rules, linkAfter, tableAfter, answer, reply, withSlot, startRules, fresh, plain, begin, start}
-use Rattle.links.specs.Reached.{Reached, Sound}
+use Rattle.links.specs.Reached.{Sound}
 use Rattle.links.specs.Demands.{Refuses, RefusesStart, TableDemand1, DifferAt, Adds, Removes, TableDemand2}
 use Rattle.links.proofs.Laws.Search.{any-place, before-place, at-place}
 use Rattle.links.proofs.Laws.Counted.{enabled-below, slot-of-stop}

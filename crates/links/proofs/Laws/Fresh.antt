@@ -1,7 +1,7 @@
 -- The fresh table: its slots are blank.
 use Prim.Native.Nat.{ℕ, zero, suc}
 use mathlib.Core.Path.{_≡_, refl, ap}
-use mathlib.Core.List.{List, [], _∷_}
+use mathlib.Core.List.{List, _∷_}
 use lib.ListN.{replicate}
 use Rattle.links.specs.declared.Slot.{Slot}
 use Rattle.links.specs.Slots.{free}

@@ -1,13 +1,12 @@
 -- What a call answers, by the number that its rules give.
 use Prim.Native.Nat.{ℕ, zero, suc, _<_}
 use native.Mathlib.Omega.{arith}
-use mathlib.Core.Path.{_≡_, refl, ap}
-use mathlib.Core.List.{List, _++_}
+use mathlib.Core.Path.{_≡_, ap}
+use mathlib.Core.List.{List}
 use lib.Dec.{lit<}
-use Rattle.replies.specs.Rules.{refusal, None}
+use Rattle.replies.specs.Rules.{refusal}
 use Rattle.replies.proofs.Laws.Refusals.{Numbered, done-exactly, refusal-more, refusal-next}
 use Rattle.links.specs.declared.PerhapsLink.the-variants.{Nothing}
-use Rattle.links.specs.declared.Reply.{Reply}
 use Rattle.links.specs.declared.Settings.{Settings}
 use Rattle.links.specs.declared.Slot.{Slot}
 use Rattle.links.specs.declared.Table.{Table}

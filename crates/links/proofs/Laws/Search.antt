@@ -4,24 +4,14 @@ use native.Mathlib.Numerals.{add-one}
 use native.Mathlib.Nat.{zero-add}
 use native.Mathlib.Omega.{arith}
 use mathlib.Core.Path.{_≡_, refl, sym, _∙_, ap}
-use mathlib.Core.Bool.{Bool, true, false, cond, not, _&&_, _||_}
+use mathlib.Core.Bool.{Bool, true, false, cond, _||_}
 use mathlib.Core.List.{List, [], _∷_}
 use lib.Dec.{ltb, leb·suc-suc}
 use lib.ListN.{length, getD, drop, drop-of-length-le}
 use lib.Seq.{drop-cons}
-use borrow.Author.Tests.{lt-ltb, le-ltb}
-use Rattle.octets.proofs.Laws.Tests.{clash}
+use borrow.Author.Tests.{lt-ltb}
 use Rattle.links.specs.declared.Slot.{Slot}
 use Rattle.links.specs.Slots.{any, place}
-
-pub place-within : (q : Slot → Bool) (l : List Slot) → place q l ≤ length l
-unfolding place
-place-within q [] = omega arith
-place-within q (x ∷ l) = go (q x) (place-within q l)
-  where
-    go : (t : Bool) → place q l ≤ length l → cond t zero (suc (place q l)) ≤ suc (length l)
-    go true h = omega arith
-    go false h = omega arith
 
 -- there is one exactly if its place is one of the run
 pub any-place : (q : Slot → Bool) (l : List Slot) → any q l ≡ ltb (place q l) (length l)

@@ -1,14 +1,13 @@
 -- Every table that calls reach is sound.
 use Prim.Native.Nat.{ℕ, zero, suc, _-_, _^_, _≤_, _<_}
 use native.Mathlib.Omega.{arith}
-use mathlib.Core.Path.{_≡_, refl, sym, _∙_, ap, subst}
+use mathlib.Core.Path.{_≡_, refl, sym, _∙_, subst}
 use mathlib.Core.Logic.{_⊎_, inl, inr}
-use mathlib.Core.Bool.{Bool, true, false, and-eq-true-iff}
+use mathlib.Core.Bool.{true, and-eq-true-iff}
 use mathlib.Core.List.{List}
-use lib.Dec.{eqb, lit<, lit≤}
-use lib.ListN.{length, take, drop, set, getD, replicate, length-take, length-set}
-use lib.Seq.{getD-set-same, getD-set-other, drop-set-lt}
-use borrow.Author.Tests.{leb-true, ltb-true, ltb-false, not-false, eqb-true, eqb-false}
+use lib.Dec.{lit<, lit≤}
+use lib.ListN.{length, take, set, getD, replicate, length-take}
+use borrow.Author.Tests.{leb-true, ltb-true, ltb-false, not-false}
 use Rattle.octets.proofs.Laws.Tests.{clash}
 use Rattle.replies.specs.Rules.{refusal, None}
 use Rattle.replies.proofs.Laws.Refusals.{done-exactly, none-left, none-right}
@@ -24,57 +23,9 @@ use Rattle.links.specs.Reached.{Reached, started, called, ByValue, Apart
 use Rattle.links.proofs.Laws.Settings.{ground-sym, overlaps-sym}
 use Rattle.links.proofs.Laws.Search.{any-place}
 use Rattle.links.proofs.Laws.Counted.{enabled-below, slot-of-stop}
-use Rattle.links.proofs.Laws.Slots.{free-has-none, any-none, has-set, counted-with, cleared-blank, cleared-length, cleared-rest, count-within}
+use Rattle.links.proofs.Laws.Slots.{free-has-none, any-none, counted-with, cleared-blank, cleared-length, cleared-rest, count-within}
+use Rattle.links.proofs.Laws.Replaced.{room-with, few-with, rest-with, blank-with, filled, apart-filled, freed}
 use Rattle.links.proofs.Laws.Replies.{settings-numbered, numbered}
-
--- a slot of the run is replaced: what the new one is to be, and the rest as it was
-module _ (most : ℕ) (memory : List Slot) (t : Table) (h : Sound most memory t) (k : ℕ) (x : Slot) where
-  room-with : length (counted (withSlot t k x)) ≡ t .max - 1
-  room-with = ap length (counted-with t k x) ∙ length-set (counted t) k x ∙ h .room
-
-  few-with : enabledCount (counted (withSlot t k x)) ≤ t .max - 1
-  few-with = subst (λ (n : ℕ). enabledCount (counted (withSlot t k x)) ≤ n) room-with (count-within (counted (withSlot t k x)))
-
-  rest-with : k < length (counted t) → drop (t .max - 1) (set (t .slots) k x) ≡ drop (t .max - 1) memory
-  rest-with l = drop-set-lt (t .max - 1) (t .slots) k x (subst (λ (n : ℕ). k < n) (h .room) l) ∙ h .rest
-
-  blank-with : k < length (counted t) → (x .enabled ≡ false → x ≡ free) → (j : ℕ) → getD (counted (withSlot t k x)) j free .enabled ≡ false → getD (counted (withSlot t k x)) j free ≡ free
-  blank-with l b j = subst (λ (r : List Slot). getD r j free .enabled ≡ false → getD r j free ≡ free) (sym (counted-with t k x)) (go (eqb j k) refl)
-    where
-      go : (e : Bool) → eqb j k ≡ e → getD (set (counted t) k x) j free .enabled ≡ false → getD (set (counted t) k x) j free ≡ free
-      go true e =
-          let there : getD (set (counted t) k x) j free ≡ x =
-          ap (λ (n : ℕ). getD (set (counted t) k x) n free) (eqb-true j k e) ∙ getD-set-same (counted t) k x free l in
-          rw there b
-      go false e = rw (getD-set-other (counted t) k j x free (eqb-false j k e)) (h .blank j)
-
--- a link is enabled with s at k: what is enabled is s there, or was so before
-module _ (l : List Slot) (k : ℕ) (s : Settings) where
-  filled : (j : ℕ) (r : Settings) → Has (set l k (inUse s)) j r → ((j ≡ k) × (s ≡ r)) ⊎ Has l j r
-  filled j r h = go (has-set l k (inUse s) j r h)
-    where
-      go : ((j ≡ k) × (inUse s ≡ inUse r)) ⊎ Has l j r → ((j ≡ k) × (s ≡ r)) ⊎ Has l j r
-      go (inl x) = inl (x .0, ap (λ (y : Slot). y .settings) (x .1))
-      go (inr y) = inr y
-
-  apart-filled : (meet : Settings → Settings → Bool) → ((p q : Settings) → meet p q ≡ true → meet q p ≡ true)
-      → ((j : ℕ) (r : Settings) → Has l j r → meet r s ≡ false)
-      → Apart meet l → Apart meet (set l k (inUse s))
-  apart-filled meet flip new a i j p q hp hq m = go (filled i p hp) (filled j q hq)
-    where
-      go : ((i ≡ k) × (s ≡ p)) ⊎ Has l i p → ((j ≡ k) × (s ≡ q)) ⊎ Has l j q → i ≡ j
-      go (inl x) (inl y) = x .0 ∙ sym (y .0)
-      go (inl x) (inr y) = clash (flip p q m) (subst (λ (r : Settings). meet q r ≡ false) (x .1) (new j q y))
-      go (inr x) (inl y) = clash m (subst (λ (r : Settings). meet p r ≡ false) (y .1) (new i p x))
-      go (inr x) (inr y) = a i j p q x y m
-
--- a slot is freed: what is enabled was so before
-freed : (l : List Slot) (k j : ℕ) (s : Settings) → Has (set l k free) j s → Has l j s
-freed l k j s h = go (has-set l k free j s h)
-  where
-    go : ((j ≡ k) × (free ≡ inUse s)) ⊎ Has l j s → Has l j s
-    go (inl x) = free-has-none s (x .1)
-    go (inr y) = y
 
 start-ok : (most own max : ℕ) (tvl dgvl : FixedSettings) → refusal (startRules most own max tvl dgvl) ≡ 0 → startOk most own max tvl dgvl ≡ true
 unfolding startRules
@@ -82,7 +33,7 @@ start-ok most own max tvl dgvl e = not-false (startOk most own max tvl dgvl) (do
 
 module _ (most : ℕ) (memory : List Slot) where
   start-sound : (own max : ℕ) (tvl dgvl : FixedSettings) → refusal (startRules most own max tvl dgvl) ≡ 0 → max - 1 ≤ length memory → Sound most memory (fresh memory own max tvl dgvl)
-  unfolding fresh midOk
+  unfolding fresh
   start-sound own max tvl dgvl e h =
       let g = simp and-eq-true-iff at (start-ok most own max tvl dgvl e) in
       let run = take (max - 1) (cleared (max - 1) memory) in
@@ -182,7 +133,7 @@ module _ (most : ℕ) (memory : List Slot) where
       }
 
   after : (t : Table) (c : Call) → Sound most memory t → None (rules (counted t) c) → Sound most memory (tableAfter t c)
-  unfolding tableAfter rules midOk
+  unfolding tableAfter rules
   after t (enable s) h n = enable-sound t s h n
   after t (disable i) h n = disable-sound t i h n
   after t (setArea a) h n = head-sound t (t .own) a (h .own) (not-false (goodDynamic a) (n .0)) h
@@ -199,7 +150,7 @@ sound {most} {memory} (called {t = t} h c) = answered most memory (refusal (rule
 
 -- the table that a start by value returns, refused or not
 pub start-reached : (own max : ℕ) (tvl dgvl : FixedSettings) → ByValue (start own max tvl dgvl .table)
-unfolding start startRules midOk interfaceOk
+unfolding start startRules interfaceOk
 start-reached own max tvl dgvl = go (refusal (startRules 65 own max tvl dgvl)) refl
   where
     go : (n : ℕ) → refusal (startRules 65 own max tvl dgvl) ≡ n → ByValue (begin n (replicate 64 free) own max tvl dgvl .table)

@@ -3,9 +3,9 @@ use Prim.Native.Nat.{ℕ, zero, suc, _+_, _*_, _-_, _/_, _%_, _^_, _≤_, _<_}
 use native.Mathlib.Nat.{not-suc-le-zero, le-of-suc-le-suc, mod-eq-of-lt, zero-mod, add-sub-of-le}
 use native.Mathlib.Omega.{arith}
 use mathlib.Core.Path.{_≡_, refl, sym, _∙_, ap, subst}
-use mathlib.Core.Bool.{Bool, _&&_, and-assoc, and-true}
+use mathlib.Core.Bool.{_&&_, and-assoc}
 use mathlib.Core.List.{List, [], _∷_, _++_}
-use lib.Dec.{eqb, lit<, lit≤}
+use lib.Dec.{eqb, lit<}
 use lib.ListN.{length, getD, take, drop, length-append}
 use lib.Seq.{take-append-le, take-append-add, drop-append-le, drop-append-add}
 use lib.Pow.{shr-lt}
@@ -13,7 +13,7 @@ use borrow.Author.Tests.{eqb-true, eq-eqb}
 use Rattle.octets.specs.Runs.{same, allZero}
 use Rattle.octets.specs.Digits.{digits, number, bits}
 use Rattle.octets.proofs.Laws.Tests.{alike}
-use Rattle.octets.proofs.Laws.Runs.{same-true, same-self, eq-same, same-append, all-zero-same, all-zero-append}
+use Rattle.octets.proofs.Laws.Runs.{same-true, eq-same, same-append, all-zero-same, all-zero-append}
 use Rattle.octets.proofs.Laws.Digits.{Below, length-digits, number-digits, digits-alike, digits-zero, take-digits, drop-digits}
 
 -- two numbers have the same lowest digits exactly if their remainders are equal

@@ -1,5 +1,5 @@
 -- `octets::number`: the loop has read the number of the bytes passed, which is below the power of 256 that their count gives.
-use Prim.Native.Nat.{_+_, _*_, _-_, _≤_, _<_, _^_}
+use Prim.Native.Nat.{_-_, _≤_, _<_, _^_}
 use native.Mathlib.Nat.{pow-suc, pow-le-pow-right}
 use native.Mathlib.Numerals.{add-one}
 use native.Mathlib.Omega.{arith}

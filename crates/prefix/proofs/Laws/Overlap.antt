@@ -1,9 +1,9 @@
 -- What two prefixes have to do with each other: all that the other crates know of `holds` and `overlap`.
 use Prim.Native.Nat.{ℕ, _≤_}
 use native.Mathlib.Nat.{le-total}
-use mathlib.Core.Path.{_≡_, refl, sym, _∙_, ap}
+use mathlib.Core.Path.{_≡_, sym, _∙_, ap}
 use mathlib.Core.Logic.{Or·elim}
-use mathlib.Core.Bool.{Bool, true, _||_, and-eq-true-iff, So-prop, or-comm, or-true}
+use mathlib.Core.Bool.{true, and-eq-true-iff, So-prop, or-comm, or-true}
 use mathlib.Core.List.{List}
 use lib.Dec.{eqb}
 use lib.ListN.{length, take}

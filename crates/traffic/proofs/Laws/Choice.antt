@@ -1,23 +1,21 @@
 -- The four lines, by the transport: which of them is asked, and what the chosen link is.
-use Prim.Native.Nat.{ℕ, _+_, _-_, _≤_, _<_}
+use Prim.Native.Nat.{ℕ, _+_, _-_, _≤_}
 use native.Mathlib.Nat.{add-sub-cancel}
 use native.Mathlib.Omega.{arith}
-use mathlib.Core.Path.{_≡_, refl, sym, _∙_, ap, fun-ext}
-use mathlib.Core.Bool.{Bool, true, false, cond, _&&_, _||_, and-false}
+use mathlib.Core.Path.{_≡_, refl, _∙_, ap, fun-ext}
+use mathlib.Core.Bool.{Bool, true, false, cond, _||_, and-false}
 use mathlib.Core.List.{List, [], _∷_}
-use lib.Dec.{eqb, ltb}
-use lib.ListN.{length, getD}
-use borrow.Author.Tests.{eqb-true, ne-eqb, lt-ltb, le-ltb}
+use lib.Dec.{eqb}
+use lib.ListN.{getD}
+use borrow.Author.Tests.{eqb-true, ne-eqb}
 use Rattle.area.specs.declared.Area.{Area}
 use Rattle.ipv6.specs.Packet.{source, destination}
-use Rattle.links.specs.declared.FixedSettings.{FixedSettings}
 use Rattle.links.specs.declared.Settings.{Settings}
 use Rattle.links.specs.declared.Slot.{Slot}
 use Rattle.links.specs.declared.Table.{Table}
 use Rattle.links.specs.Settings.{reaches}
-use Rattle.links.specs.Slots.{free, counted, slotAt, any, place, with}
+use Rattle.links.specs.Slots.{free, counted, any, place, with}
 use Rattle.links.specs.Index.{interfaceAt}
-use Rattle.links.proofs.Laws.Search.{any-place}
 use Rattle.links.proofs.Laws.Counted.{slot-of-stop}
 use Rattle.traffic.specs.Arrives.{Indication, Link, topological, dynamic, stop, Found, at, nowhere, stopBy, isArea, byArea, byDestination, bySource, failing, choose, kindOf, indexNumber}
 use Rattle.traffic.proofs.Laws.Found.{found-at}

@@ -21,8 +21,8 @@ use Rattle.links.proofs.Laws.Settings.{ground-one, ground-alike, reaches-one, r
 use Rattle.links.proofs.Laws.Sound.{sound}
 use Rattle.traffic.specs.declared.Destination.{Destination}
 use Rattle.traffic.specs.declared.Destination.the-variants.{Mid, Within, Nothing}
-use Rattle.traffic.specs.Arrives.{Indication, Received, Link, topological, dynamic, stop, Found, at, nowhere, stopBy, isArea, byArea, byDestination, bySource, failing, choose, written, deliverAs, deliver, refuse, unless, indicationRules, receive}
-use Rattle.traffic.specs.Demand3.{Lacks, Wider, OnStop, SameButIndex, PutBySource, Follows, refusesAlike, topologicalStays, stopStays, stopMoves, dynamicStays, dynamicMoves, Demand3, Demand3OfCalls}
+use Rattle.traffic.specs.Arrives.{Indication, Received, Link, topological, dynamic, stop, Found, at, nowhere, stopBy, isArea, byArea, byDestination, bySource, failing, choose, written, deliverAs, deliver, unless, indicationRules, receive}
+use Rattle.traffic.specs.Demand3.{Lacks, Wider, OnStop, Follows, refusesAlike, topologicalStays, stopStays, stopMoves, dynamicStays, dynamicMoves, Demand3, Demand3OfCalls}
 use Rattle.traffic.proofs.Laws.Found.{found-at, found-nowhere}
 
 -- A test by which line 2 or 3 looks for a link: equal settings answer it alike, and in a sound table one link at most passes it.

@@ -1,10 +1,10 @@
 -- Demands 1 and 2, proved for every call of document 01.
-use Prim.Native.Nat.{ℕ, zero, suc, _+_, _-_, _≤_}
+use Prim.Native.Nat.{ℕ, zero, suc, _+_, _-_}
 use native.Mathlib.Omega.{arith}
 use mathlib.Core.Path.{_≡_, refl, sym, _∙_, ap, subst}
 use mathlib.Core.Logic.{_≢_}
 use mathlib.Core.Bool.{Bool, true, false, cond}
-use mathlib.Core.List.{List, _++_}
+use mathlib.Core.List.{List}
 use lib.Dec.{eqb}
 use lib.ListN.{length, take, drop, length-append, length-drop}
 use lib.Seq.{take-append-seam, drop-append-seam}
@@ -12,16 +12,14 @@ use borrow.Author.Tests.{not-false}
 use Rattle.replies.specs.Rules.{refusal, Exact}
 use Rattle.replies.proofs.Laws.Refusals.{exact, done-exactly}
 use Rattle.ipv6.specs.Identifier.{linkLocal}
-use Rattle.links.specs.declared.PerhapsLink.the-variants.{Nothing as NoLink}
 use Rattle.links.specs.declared.Settings.{Settings}
-use Rattle.links.specs.declared.Slot.{Slot}
 use Rattle.links.specs.declared.Table.{Table}
-use Rattle.links.specs.Slots.{Has, counted}
+use Rattle.links.specs.Slots.{counted}
 use Rattle.links.specs.Index.{enabledAt}
 use Rattle.links.proofs.Laws.Demands.{table-demand-1, table-demand-2}
 use Rattle.traffic.specs.declared.Interface.{Interface}
 use Rattle.traffic.specs.declared.Sending.{Sending}
-use Rattle.traffic.specs.Arrives.{Indication, Received, Link, topological, dynamic, stop, Found, at, nowhere, stopBy, byArea, byDestination, bySource, failing, choose, kindOf, written, deliver, refuse, unless, indicationRules, receive}
+use Rattle.traffic.specs.Arrives.{Indication, Received, Link, topological, dynamic, Found, at, nowhere, stopBy, byArea, byDestination, bySource, failing, choose, kindOf, written, deliver, refuse, unless, indicationRules, receive}
 use Rattle.traffic.specs.Leaves.{Request, requestRules, sending, send, interfaceRules, answerInterface, interface}
 use Rattle.traffic.specs.Demands.{RefusesIndication, RefusesRequest, Demand1, IsLink, Delivers, Sends, Addresses, Demand2}
 use Rattle.traffic.proofs.Laws.Found.{found-at}

@@ -2,7 +2,7 @@
 use Prim.Native.Nat.{ℕ, _<_}
 use native.Mathlib.Omega.{arith}
 use mathlib.Core.Path.{_≡_, refl, sym, _∙_, ap}
-use mathlib.Core.Bool.{Bool, true, false, cond, _&&_, and-eq-true-iff}
+use mathlib.Core.Bool.{Bool, true, false, cond, and-eq-true-iff}
 use mathlib.Core.List.{List}
 use lib.ListN.{length, getD}
 use borrow.Author.Tests.{ltb-true}
@@ -11,7 +11,7 @@ use Rattle.links.specs.declared.Slot.{Slot}
 use Rattle.links.specs.Slots.{Has, free, inUse, any, place, with}
 use Rattle.links.proofs.Laws.Search.{any-place, at-place}
 use Rattle.links.proofs.Laws.Slots.{any-none}
-use Rattle.traffic.specs.Arrives.{Found, at, nowhere, stopBy}
+use Rattle.traffic.specs.Arrives.{at, nowhere, stopBy}
 
 -- a slot that passes is enabled
 enabled : (q : Settings → Bool) (x : Slot) → with q x ≡ true → (x ≡ inUse (x .settings)) × (q (x .settings) ≡ true)

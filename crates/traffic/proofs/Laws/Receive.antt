@@ -1,13 +1,13 @@
 -- What an indication answers, by the number that its rules give; and where it is delivered there is room.
 use Prim.Native.Nat.{ℕ, zero, suc, _+_, _≤_, _<_}
 use native.Mathlib.Omega.{arith}
-use mathlib.Core.Path.{_≡_, refl, ap}
+use mathlib.Core.Path.{_≡_, ap}
 use mathlib.Core.Bool.{Bool, true, false, cond}
-use mathlib.Core.List.{List, [], _++_}
+use mathlib.Core.List.{List, []}
 use lib.Dec.{eqb, ltb, lit<}
 use lib.ListN.{length}
 use borrow.Author.Tests.{ltb-false}
-use Rattle.replies.specs.Rules.{Rule, _if_, _then_, refusal}
+use Rattle.replies.specs.Rules.{_if_, _then_, refusal}
 use Rattle.replies.proofs.Laws.Refusals.{Numbered, numbered-append, done-exactly, none-right}
 use Rattle.ipv6.specs.Packet.{packetRules}
 use Rattle.ipv6.proofs.Laws.Packet.{packet-numbered}

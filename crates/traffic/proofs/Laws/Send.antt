@@ -2,17 +2,15 @@
 use Prim.Native.Nat.{ℕ, zero, suc, _<_}
 use native.Mathlib.Omega.{arith}
 use mathlib.Core.Path.{_≡_, ap}
-use mathlib.Core.List.{List, _++_}
 use lib.Dec.{lit<}
-use lib.ListN.{length, replicate}
+use lib.ListN.{length}
 use Rattle.replies.specs.Rules.{refusal}
 use Rattle.replies.proofs.Laws.Refusals.{Numbered, numbered-append}
 use Rattle.ipv6.specs.Packet.{packetRules}
-use Rattle.ipv6.specs.Identifier.{linkLocal}
 use Rattle.ipv6.proofs.Laws.Packet.{packet-numbered}
 use Rattle.links.specs.declared.Table.{Table}
 use Rattle.traffic.specs.declared.Destination.the-variants.{Nothing}
-use Rattle.traffic.specs.Leaves.{Request, resolveRules, requestRules, down, sending, send, interfaceRules, answerInterface, interface}
+use Rattle.traffic.specs.Leaves.{Request, resolveRules, requestRules, down, sending, send, interfaceRules}
 
 pub request-numbered : (t : Table) (q : Request) → Numbered (requestRules t q)
 unfolding requestRules resolveRules
