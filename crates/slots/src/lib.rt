@@ -37,7 +37,7 @@ fn is_wanted(x: Slot, wanted: Wanted, s: Settings, address: &[u8]) -> bool
 }
 
 // How many slots count.
-pub fn slot_count(max: usize) -> usize
+fn slot_count(max: usize) -> usize
     ensures { λ r. ⌜ r ≡ min (max - 1) 64 ⌝ }
 {
     if max == 0 {
@@ -59,7 +59,7 @@ pub struct Chosen {
 }
 
 // The one loop. The kind comes with the place because each function that reads a slot of its table copies the whole table.
-pub fn find(t: Table, wanted: Wanted, s: Settings, address: &[u8]) -> Found
+fn find(t: Table, wanted: Wanted, s: Settings, address: &[u8]) -> Found
     ensures { λ r. ⌜ r ≡ found t (place (passes wanted s (now (address .entry))) (counted t)) ⌝ }
 {
     let n = slot_count(t.max);
@@ -79,7 +79,7 @@ pub fn find(t: Table, wanted: Wanted, s: Settings, address: &[u8]) -> Found
 }
 
 // The place of the first slot that is wanted; the number of slots that count where there is none.
-pub fn first_place(t: Table, wanted: Wanted, s: Settings, address: &[u8]) -> usize
+fn first_place(t: Table, wanted: Wanted, s: Settings, address: &[u8]) -> usize
     ensures { λ r. ⌜ r ≡ place (passes wanted s (now (address .entry))) (counted t) ⌝ }
 {
     let f = find(t, wanted, s, address);
