@@ -2,10 +2,10 @@
 use traffic::Destination;
 ghost use mathlib.Core.Path.{_≡_};
 ghost use Rattle.replies.specs.Rules.{refusal};
-ghost use Rattle.traffic.specs.Arrives.{indication, fitting, goodDestination, indicationRules};
+ghost use Rattle.traffic.specs.Arrives.{indication, rightSort, goodDestination, indicationRules};
 
 fn fits(d: Destination, transport: u8) -> bool
-    ensures { λ r. ⌜ r ≡ fitting d transport ⌝ }
+    ensures { λ r. ⌜ r ≡ rightSort d transport ⌝ }
 {
     match d {
         Destination::Mid(m) => (transport == 1) & links::checks::mid_ok(m),
@@ -25,7 +25,13 @@ fn is_good(d: Destination) -> bool
 }
 
 // The number: 1, 2, 9, 8, 10, 13 in this order, or 0. The class decides nothing.
-pub fn refusal_of(transport: u8, source: u64, d: Destination, packet: &[u8], room: usize) -> u8
+pub fn indication_refusal(
+    transport: u8,
+    source: u64,
+    d: Destination,
+    packet: &[u8],
+    room: usize,
+) -> u8
     ensures { λ r. ⌜ r ≡ refusal (indicationRules (indication transport source 0 d (now (packet .entry))) room) ⌝ }
 {
     if !(links::checks::mid_ok(source) & fits(d, transport)) {
@@ -34,7 +40,7 @@ pub fn refusal_of(transport: u8, source: u64, d: Destination, packet: &[u8], roo
     if !is_good(d) {
         return replies::AREA_NOT_GOOD;
     }
-    let bad = ipv6::refusal_of(packet);
+    let bad = ipv6::packet_refusal(packet);
     if bad != replies::DONE {
         return bad;
     }

@@ -3,12 +3,12 @@ use area::Area;
 use links::LinkIndex;
 use links::Settings;
 use links::Table;
-use slots::Chosen;
-use slots::Wanted;
 use traffic::Destination;
+use value_slots::Chosen;
+use value_slots::Wanted;
 ghost use mathlib.Core.Path.{_≡_};
 ghost use Rattle.links.specs.Slots.{counted};
-ghost use Rattle.slots.specs.Search.{chosen};
+ghost use Rattle.value_slots.specs.Search.{chosen};
 ghost use Rattle.traffic.specs.Arrives.{indication, choose, indexNumber};
 
 // Settings for a question about the area alone.
@@ -48,17 +48,22 @@ pub fn link_of(t: Table, transport: u8, d: Destination, packet: &[u8]) -> Chosen
         let s = slot.settings;
         let to = ipv6::destination_of(packet);
         let from = ipv6::source_of(packet);
-        let found = slots::link_or_dynamic(t, Wanted::Reaching, s, to);
+        let found = value_slots::link_or_dynamic(t, Wanted::Reaching, s, to);
         if found.index != LinkIndex::DGVL.0 {
             return found;
         }
-        return slots::link_or_dynamic(t, Wanted::Reaching, s, from);
+        return value_slots::link_or_dynamic(t, Wanted::Reaching, s, from);
     }
     if !((transport == 2) | (transport == 3)) {
         return dynamic;
     }
     match d {
-        Destination::Within(a) => slots::link_or_dynamic(t, Wanted::SameGround, of_area(a), b""),
+        Destination::Within(a) => value_slots::link_or_dynamic(
+            t,
+            Wanted::SameGround,
+            of_area(a),
+            b"",
+        ),
         Destination::Mid(_) => dynamic,
         Destination::Nothing => dynamic,
     }

@@ -10,7 +10,7 @@ use traffic::Destination;
 use traffic::Reception;
 ghost use mathlib.Core.Path.{_≡_};
 ghost use Rattle.frames.specs.Frame.{put, putLength};
-ghost use Rattle.traffic.specs.Arrives.{indication, macTo, written, Promised};
+ghost use Rattle.traffic.specs.Arrives.{indication, macTo, frameOrPacket, Promised};
 
 fn mac_to(d: Destination) -> u64
     ensures { λ r. ⌜ r ≡ macTo d ⌝ }
@@ -24,7 +24,7 @@ fn mac_to(d: Destination) -> u64
 
 // What a link of this kind is given: a frame, or the packet alone.
 fn write(kind: u8, source: u64, d: Destination, packet: &[u8], out: &mut [u8]) -> usize
-    ensures { λ r. ⌜ (r ≡ putLength (written kind (indication 0 source 0 d (now (packet .entry)))) (now (out .entry))) × (now (out .exit) ≡ put (written kind (indication 0 source 0 d (now (packet .entry)))) (now (out .entry))) ⌝ }
+    ensures { λ r. ⌜ (r ≡ putLength (frameOrPacket kind (indication 0 source 0 d (now (packet .entry)))) (now (out .entry))) × (now (out .exit) ≡ put (frameOrPacket kind (indication 0 source 0 d (now (packet .entry)))) (now (out .entry))) ⌝ }
 {
     if kind == 1 {
         return frames::write_frame(out, mac_to(d), source, packet);
@@ -43,7 +43,7 @@ pub fn indication(
 ) -> Reception
     ensures { λ r. ⌜ Promised t (indication transport source class d (now (packet .entry))) (now (out .entry)) r (now (out .exit)) ⌝ }
 {
-    let bad = checks::refusal_of(transport, source, d, packet, out.len());
+    let bad = checks::indication_refusal(transport, source, d, packet, out.len());
     if bad != replies::DONE {
         return Reception {
             number: bad,

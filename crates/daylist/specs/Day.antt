@@ -23,5 +23,5 @@ tableFrom (suc n) input started t at =
     t
 
 -- a box that nobody has started; no day has more records than bytes
-unfoldable pub evening : List ℕ → Table
-evening input = tableFrom (length input) input false (fresh (replicate 64 free) 0 2 plain plain) 0
+unfoldable pub eveningTable : List ℕ → Table
+eveningTable input = tableFrom (length input) input false (fresh (replicate 64 free) 0 2 plain plain) 0

@@ -1,14 +1,14 @@
 // Document 01, The day file: prints a header and one line per record of the day file on standard input, up to 65,536 bytes.
 use libc::STDIN_FILENO;
 use libc::STDOUT_FILENO;
-use links::FixedSettings;
+use links::Interface;
 use links::PerhapsLink;
 use links::Table;
 ghost use mathlib.Core.Path.{_≡_};
 ghost use lib.ListN.{replicate};
 ghost use Rattle.links.specs.Slots.{free};
 ghost use Rattle.links.specs.Calls.{plain, fresh};
-ghost use Rattle.daylist.specs.Day.{evening};
+ghost use Rattle.daylist.specs.Day.{eveningTable};
 
 fn print(text: &[u8]) -> bool {
     io::write_all(STDOUT_FILENO, text)
@@ -36,14 +36,14 @@ fn print_line(line: u64, number: u8, link: PerhapsLink, length: usize) {
 fn unstarted() -> Table
     ensures { λ r. ⌜ r ≡ fresh (replicate 64 free) 0 2 plain plain ⌝ }
 {
-    let plain = FixedSettings { kind: 1, flag: 1 };
+    let plain = Interface { kind: 1, flag: 1 };
     Table::fresh(0, 2, plain, plain)
 }
 
 // Prints a line for each record, and gives the table in the evening: no contract can say what is printed, but a loop that
 // forgets what a record did to the box gives another table.
 fn list(input: &[u8]) -> Table
-    ensures { λ r. ⌜ r ≡ evening (now (input .entry)) ⌝ }
+    ensures { λ r. ⌜ r ≡ eveningTable (now (input .entry)) ⌝ }
 {
     let mut started = false;
     let mut t = unstarted();

@@ -13,7 +13,7 @@ use Rattle.links.specs.declared.PerhapsLink.{PerhapsLink}
 use Rattle.links.specs.declared.PerhapsLink.the-variants.{Link, Nothing}
 use Rattle.links.specs.declared.Settings.{Settings}
 use Rattle.links.specs.declared.Table.{Table}
-use Rattle.links.specs.Calls.{Call, enable, disable, reply, start, plain}
+use Rattle.links.specs.Calls.{TableCall, enable, disable, reply, start, plain}
 use Rattle.ipv6.specs.declared.PerhapsMid.{PerhapsMid}
 use Rattle.ipv6.specs.declared.PerhapsMid.the-variants.{Mid, Nothing as NoMid}
 use Rattle.ipv6.specs.Packet.{packetRules}
@@ -67,7 +67,7 @@ indexOrZero (Link i) = i .0
 indexOrZero Nothing = 0
 
 -- the links that calls give, one call after the other; 0 for none
-abbrev pub given : Table → List Call → List ℕ
+abbrev pub given : Table → List TableCall → List ℕ
 given t [] = []
 given t (c ∷ cs) = indexOrZero (reply t c .link) ∷ given (reply t c .table) cs
 

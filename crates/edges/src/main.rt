@@ -2,7 +2,7 @@
 // same lines from its own code.
 use area::Area;
 use libc::STDOUT_FILENO;
-use links::FixedSettings;
+use links::Interface;
 use links::PerhapsLink;
 use links::Settings;
 use links::Table;
@@ -40,11 +40,11 @@ fn settings(area: Area, len: u8, first: u8) -> Settings {
 
 // Maximum 2, and its only stop link enabled.
 fn with_one_stop() -> Table {
-    let plain = FixedSettings { kind: 1, flag: 1 };
-    let start = table::start(1, 2, plain, plain);
+    let plain = Interface { kind: 1, flag: 1 };
+    let start = value_table::start(1, 2, plain, plain);
     let fresh = start.table;
     let stop = settings(rectangle(0, 90), 0, 0);
-    let reply = table::enable(fresh, stop);
+    let reply = value_table::enable(fresh, stop);
     reply.table
 }
 
@@ -63,7 +63,7 @@ fn packet() -> [u8; 40] {
 
 fn second_stop() {
     let second = settings(rectangle(1_000, 90), 8, 0x20);
-    let reply = table::enable(with_one_stop(), second);
+    let reply = value_table::enable(with_one_stop(), second);
     print(b"second stop link at maximum 2: expected 6 got ");
     io::print_decimal(STDOUT_FILENO, reply.number as u64);
     print(b"\n");

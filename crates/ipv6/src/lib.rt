@@ -74,7 +74,7 @@ fn is_forbidden(packet: &[u8]) -> bool
 }
 
 // The number that refuses a packet, in the order 9, 8, 10; 0 for a good one.
-pub fn refusal_of(packet: &[u8]) -> u8
+pub fn packet_refusal(packet: &[u8]) -> u8
     ensures { λ r. ⌜ r ≡ refusal (packetRules (now (packet .entry))) ⌝ }
 {
     if 1280 < packet.len() {

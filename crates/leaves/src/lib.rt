@@ -1,12 +1,12 @@
 // Document 01, What leaves: a request is refused, or sent down with its transport and destination; and the interface address
 // of a link. The table does not change.
 use ipv6::PerhapsMid;
-use links::DynamicArea;
-use links::FixedSettings;
+use links::Interface;
 use links::LinkIndex;
+use links::PerhapsArea;
 use links::Table;
 use traffic::Destination;
-use traffic::Interface;
+use traffic::InterfaceAddress;
 use traffic::Sending;
 ghost use mathlib.Core.Path.{_≡_};
 ghost use Rattle.traffic.specs.Leaves.{request, neighbourOk, neighbourOf, isUnset, within, send, interface};
@@ -21,7 +21,7 @@ fn neighbour_ok(neighbour: PerhapsMid) -> bool
 }
 
 // The neighbour's MID: derived from the packet's destination, or the one given.
-fn neighbour_of(f: FixedSettings, given: PerhapsMid, packet: &[u8]) -> PerhapsMid
+fn neighbour_of(f: Interface, given: PerhapsMid, packet: &[u8]) -> PerhapsMid
     ensures { λ r. ⌜ r ≡ neighbourOf f given (now (packet .entry)) ⌝ }
 {
     if (f.kind == 3) | (f.flag == 1) {
@@ -30,21 +30,21 @@ fn neighbour_of(f: FixedSettings, given: PerhapsMid, packet: &[u8]) -> PerhapsMi
     given
 }
 
-fn is_unset(a: DynamicArea) -> bool
+fn is_unset(a: PerhapsArea) -> bool
     ensures { λ r. ⌜ r ≡ isUnset a ⌝ }
 {
     match a {
-        DynamicArea::Set(_) => false,
-        DynamicArea::Unset => true,
+        PerhapsArea::Set(_) => false,
+        PerhapsArea::Unset => true,
     }
 }
 
-fn within_area(a: DynamicArea) -> Destination
+fn within_area(a: PerhapsArea) -> Destination
     ensures { λ r. ⌜ r ≡ within a ⌝ }
 {
     match a {
-        DynamicArea::Set(x) => Destination::Within(x),
-        DynamicArea::Unset => Destination::Nothing,
+        PerhapsArea::Set(x) => Destination::Within(x),
+        PerhapsArea::Unset => Destination::Nothing,
     }
 }
 
@@ -84,11 +84,11 @@ pub fn request(
     if !neighbour_ok(neighbour) {
         return refused(replies::VALUE_OUT_OF_RANGE);
     }
-    let link = slots::index::link_at(t, index);
+    let link = value_slots::index::link_at(t, index);
     if !link.enabled {
         return refused(replies::NO_SUCH_LINK);
     }
-    let bad = ipv6::refusal_of(packet);
+    let bad = ipv6::packet_refusal(packet);
     if bad != replies::DONE {
         return refused(bad);
     }
@@ -111,18 +111,18 @@ pub fn request(
     }
 }
 
-pub fn interface_address(t: Table, index: LinkIndex) -> Interface
+pub fn interface_address(t: Table, index: LinkIndex) -> InterfaceAddress
     ensures { λ r. ⌜ r ≡ interface t (index .0) ⌝ }
 {
-    if !slots::index::is_enabled(t, index) {
-        return Interface {
+    if !value_slots::index::is_enabled(t, index) {
+        return InterfaceAddress {
             number: replies::NO_SUCH_LINK,
             mid: 0,
             address: [0; 16],
         };
     }
     let address = ipv6::link_local_of(t.own);
-    Interface {
+    InterfaceAddress {
         number: replies::DONE,
         mid: t.own,
         address: address,

@@ -6,9 +6,9 @@ use lib.Dec.{leb, ltb}
 use lib.ListN.{set, replicate}
 use Rattle.replies.specs.Rules.{Rule, _if_, _then_, refusal}
 use Rattle.area.specs.Area.{goodArea}
-use Rattle.links.specs.declared.DynamicArea.{DynamicArea}
-use Rattle.links.specs.declared.DynamicArea.the-variants.{Set, Unset}
-use Rattle.links.specs.declared.FixedSettings.{FixedSettings}
+use Rattle.links.specs.declared.PerhapsArea.{PerhapsArea}
+use Rattle.links.specs.declared.PerhapsArea.the-variants.{Set, Unset}
+use Rattle.links.specs.declared.Interface.{Interface}
 use Rattle.links.specs.declared.PerhapsLink.{PerhapsLink}
 use Rattle.links.specs.declared.PerhapsLink.the-variants.{Link, Nothing}
 use Rattle.links.specs.declared.Reply.{Reply}
@@ -18,13 +18,13 @@ use Rattle.links.specs.declared.Table.{Table}
 use Rattle.links.specs.Settings.{midOk, interfaceOk, settingsRules, sameGround, overlaps}
 use Rattle.links.specs.Slots.{free, inUse, counted, slotAt, any, place, unused, with}
 
-pub data Call : Type 0 where
-  enable : Settings → Call
-  disable : ℕ → Call
-  setArea : DynamicArea → Call
-  setOwn : ℕ → Call
+pub data TableCall : Type 0 where
+  enable : Settings → TableCall
+  disable : ℕ → TableCall
+  setArea : PerhapsArea → TableCall
+  setOwn : ℕ → TableCall
 
-abbrev pub goodDynamic : DynamicArea → Bool
+abbrev pub goodDynamic : PerhapsArea → Bool
 goodDynamic (Set a) = goodArea a
 goodDynamic Unset = true
 
@@ -37,7 +37,7 @@ slotRules l s =
     then []
 
 -- the refusals of each call, in order; of the table they see the slots that count
-unfoldable pub rules : List Slot → Call → List Rule
+unfoldable pub rules : List Slot → TableCall → List Rule
 rules l (enable s) = settingsRules s ++ slotRules l s
 rules l (disable i) =
     15 if ltb i 2
@@ -57,7 +57,7 @@ withSlot t k x = record {
   slots = set (t .slots) k x;
 }
 
-abbrev pub withArea : Table → DynamicArea → Table
+abbrev pub withArea : Table → PerhapsArea → Table
 withArea t a = record {
   own = t .own;
   max = t .max;
@@ -81,28 +81,28 @@ abbrev pub linkOf : ℕ → PerhapsLink
 linkOf k = Link (record { 0 = k + 2 })
 
 -- an enable takes the lowest unused index; of the others none gives a link
-unfoldable pub linkAfter : List Slot → Call → PerhapsLink
+unfoldable pub linkAfter : List Slot → TableCall → PerhapsLink
 linkAfter l (enable s) = linkOf (place unused l)
 linkAfter l (disable i) = Nothing
 linkAfter l (setArea a) = Nothing
 linkAfter l (setOwn m) = Nothing
 
-unfoldable pub tableAfter : Table → Call → Table
+unfoldable pub tableAfter : Table → TableCall → Table
 tableAfter t (enable s) = withSlot t (place unused (counted t)) (inUse s)
 tableAfter t (disable i) = withSlot t (i - 2) free
 tableAfter t (setArea a) = withArea t a
 tableAfter t (setOwn m) = withOwn t m
 
 -- a refusal returns its number, no link, and changes nothing
-abbrev pub answer : ℕ → Table → Call → Reply
+abbrev pub answer : ℕ → Table → TableCall → Reply
 answer zero t c = record { number = 0; link = linkAfter (counted t) c; table = tableAfter t c }
 answer (suc n) t c = record { number = suc n; link = Nothing; table = t }
 
-unfoldable pub reply : Table → Call → Reply
+unfoldable pub reply : Table → TableCall → Reply
 reply t c = answer (refusal (rules (counted t) c)) t c
 
 -- start: the least maximum is 2, and `most` the largest (65 for a table by value)
-abbrev pub startOk : ℕ → ℕ → ℕ → FixedSettings → FixedSettings → Bool
+abbrev pub startOk : ℕ → ℕ → ℕ → Interface → Interface → Bool
 startOk most own max tvl dgvl =
     midOk own
     && leb 2 max
@@ -110,7 +110,7 @@ startOk most own max tvl dgvl =
     && interfaceOk (tvl .kind) (tvl .flag)
     && interfaceOk (dgvl .kind) (dgvl .flag)
 
-unfoldable pub startRules : ℕ → ℕ → ℕ → FixedSettings → FixedSettings → List Rule
+unfoldable pub startRules : ℕ → ℕ → ℕ → Interface → Interface → List Rule
 startRules most own max tvl dgvl = 1 if not (startOk most own max tvl dgvl) then []
 
 -- the first n slots of a memory are cleared, or as many as it has
@@ -120,7 +120,7 @@ cleared (suc n) [] = []
 cleared (suc n) (x ∷ l) = free ∷ cleared n l
 
 -- the fresh table in some memory: the slots that count are cleared
-unfoldable pub fresh : List Slot → ℕ → ℕ → FixedSettings → FixedSettings → Table
+unfoldable pub fresh : List Slot → ℕ → ℕ → Interface → Interface → Table
 fresh memory own max tvl dgvl = record {
   own = own;
   max = max;
@@ -130,14 +130,14 @@ fresh memory own max tvl dgvl = record {
   slots = cleared (max - 1) memory;
 }
 
-abbrev pub plain : FixedSettings
+abbrev pub plain : Interface
 plain = record { kind = 1; flag = 1 }
 
 -- a refused start returns its number and the table for own MID 0, maximum 2, fixed links of kind 1 and flag 1
-abbrev pub begin : ℕ → List Slot → ℕ → ℕ → FixedSettings → FixedSettings → Reply
+abbrev pub begin : ℕ → List Slot → ℕ → ℕ → Interface → Interface → Reply
 begin zero memory own max tvl dgvl = record { number = 0; link = Nothing; table = fresh memory own max tvl dgvl }
 begin (suc n) memory own max tvl dgvl = record { number = suc n; link = Nothing; table = fresh memory 0 2 plain plain }
 
 -- start by value: 64 blank slots
-unfoldable pub start : ℕ → ℕ → FixedSettings → FixedSettings → Reply
+unfoldable pub start : ℕ → ℕ → Interface → Interface → Reply
 start own max tvl dgvl = begin (refusal (startRules 65 own max tvl dgvl)) (replicate 64 free) own max tvl dgvl

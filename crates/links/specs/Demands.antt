@@ -6,28 +6,28 @@ use mathlib.Core.Bool.{true}
 use mathlib.Core.List.{List}
 use lib.ListN.{getD, replicate}
 use Rattle.replies.specs.Rules.{Exact}
-use Rattle.links.specs.declared.DynamicArea.{DynamicArea}
-use Rattle.links.specs.declared.FixedSettings.{FixedSettings}
+use Rattle.links.specs.declared.PerhapsArea.{PerhapsArea}
+use Rattle.links.specs.declared.Interface.{Interface}
 use Rattle.links.specs.declared.PerhapsLink.the-variants.{Nothing}
 use Rattle.links.specs.declared.Settings.{Settings}
 use Rattle.links.specs.declared.Slot.{Slot}
 use Rattle.links.specs.declared.Table.{Table}
 use Rattle.links.specs.Slots.{free, inUse, counted}
-use Rattle.links.specs.Calls.{Call, enable, disable, setArea, setOwn, rules, reply, linkOf, withArea, withOwn, startRules, fresh, plain, start}
+use Rattle.links.specs.Calls.{TableCall, enable, disable, setArea, setOwn, rules, reply, linkOf, withArea, withOwn, startRules, fresh, plain, start}
 use Rattle.links.specs.Reached.{Reached}
 
 -- Demand 1: bad input gets its number in document 01's order, and a refusal changes nothing
-pub record Refuses (t : Table) (c : Call) : Type 0 where
+pub record Refuses (t : Table) (c : TableCall) : Type 0 where
   pub exact : Exact (rules (counted t) c) (reply t c .number)
   pub unchanged : reply t c .number ≢ 0 → (reply t c .table ≡ t) × (reply t c .link ≡ Nothing)
 
 -- of a start: a refused one gives the table that document 01 names
-pub record RefusesStart (own max : ℕ) (tvl dgvl : FixedSettings) : Type 0 where
+pub record RefusesStart (own max : ℕ) (tvl dgvl : Interface) : Type 0 where
   pub exact : Exact (startRules 65 own max tvl dgvl) (start own max tvl dgvl .number)
   pub plainTable : start own max tvl dgvl .number ≢ 0 → start own max tvl dgvl .table ≡ fresh (replicate 64 free) 0 2 plain plain
 
 unfoldable pub TableDemand1 : Type 0
-TableDemand1 = ((t : Table) (c : Call) → Refuses t c) × ((own max : ℕ) (tvl dgvl : FixedSettings) → RefusesStart own max tvl dgvl)
+TableDemand1 = ((t : Table) (c : TableCall) → Refuses t c) × ((own max : ℕ) (tvl dgvl : Interface) → RefusesStart own max tvl dgvl)
 
 -- Demand 2: the table that a call leaves is the definition's. What a reader would ask of the definition:
 
@@ -61,5 +61,5 @@ TableDemand2 =
     (most : ℕ) (memory : List Slot) (t : Table) → Reached most memory t →
     ((s : Settings) → reply t (enable s) .number ≡ 0 → (k : ℕ) × Adds t s k)
     × ((i : ℕ) → reply t (disable i) .number ≡ 0 → Removes t i)
-    × ((a : DynamicArea) → reply t (setArea a) .number ≡ 0 → reply t (setArea a) .table ≡ withArea t a)
+    × ((a : PerhapsArea) → reply t (setArea a) .number ≡ 0 → reply t (setArea a) .table ≡ withArea t a)
     × ((m : ℕ) → reply t (setOwn m) .number ≡ 0 → reply t (setOwn m) .table ≡ withOwn t m)

@@ -3,9 +3,9 @@ use Prim.Native.Nat.{ℕ}
 use mathlib.Core.Bool.{Bool, cond, _||_}
 use mathlib.Core.List.{List}
 use lib.Dec.{eqb, ltb}
-use Rattle.links.specs.declared.DynamicArea.{DynamicArea}
-use Rattle.links.specs.declared.DynamicArea.the-variants.{Set, Unset}
-use Rattle.links.specs.declared.FixedSettings.{FixedSettings}
+use Rattle.links.specs.declared.PerhapsArea.{PerhapsArea}
+use Rattle.links.specs.declared.PerhapsArea.the-variants.{Set, Unset}
+use Rattle.links.specs.declared.Interface.{Interface}
 use Rattle.links.specs.declared.Slot.{Slot}
 use Rattle.links.specs.declared.Table.{Table}
 use Rattle.links.specs.Slots.{counted, slotAt}
@@ -15,14 +15,14 @@ unfoldable pub enabledAt : List Slot → ℕ → Bool
 enabledAt l i = ltb i 2 || slotAt l i .enabled
 
 -- its kind and flag
-unfoldable pub interfaceAt : Table → ℕ → FixedSettings
+unfoldable pub interfaceAt : Table → ℕ → Interface
 interfaceAt t i =
     cond (eqb i 0) (t .tvl)
     (cond (eqb i 1) (t .dgvl)
     (record { kind = slotAt (counted t) i .settings .kind; flag = slotAt (counted t) i .settings .flag }))
 
 -- its area: the topological link has none
-unfoldable pub areaAt : Table → ℕ → DynamicArea
+unfoldable pub areaAt : Table → ℕ → PerhapsArea
 areaAt t i =
     cond (eqb i 0) Unset
     (cond (eqb i 1) (t .area)

@@ -5,20 +5,20 @@ use mathlib.Core.Bool.{Bool, true, false}
 use mathlib.Core.List.{List}
 use lib.ListN.{length, getD, drop, replicate}
 use Rattle.replies.specs.Rules.{refusal}
-use Rattle.links.specs.declared.FixedSettings.{FixedSettings}
+use Rattle.links.specs.declared.Interface.{Interface}
 use Rattle.links.specs.declared.Settings.{Settings}
 use Rattle.links.specs.declared.Slot.{Slot}
 use Rattle.links.specs.declared.Table.{Table}
 use Rattle.links.specs.Settings.{interfaceOk, settingsRules, sameGround, overlaps}
 use Rattle.links.specs.Slots.{Has, free, counted, enabledCount}
-use Rattle.links.specs.Calls.{startRules, fresh, goodDynamic, Call, reply}
+use Rattle.links.specs.Calls.{startRules, fresh, goodDynamic, TableCall, reply}
 
 -- in a memory of slots, with maxima up to `most`: a start that is not refused, then calls, refused or not
 pub data Reached (most : ℕ) (memory : List Slot) : Table → Type 0 where
-  started : (own max : ℕ) (tvl dgvl : FixedSettings) →
+  started : (own max : ℕ) (tvl dgvl : Interface) →
       refusal (startRules most own max tvl dgvl) ≡ 0 → max - 1 ≤ length memory →
       Reached most memory (fresh memory own max tvl dgvl)
-  called : {t : Table} → Reached most memory t → (c : Call) → Reached most memory (reply t c .table)
+  called : {t : Table} → Reached most memory t → (c : TableCall) → Reached most memory (reply t c .table)
 
 -- a table by value: 64 blank slots, maxima up to 65
 abbrev pub ByValue : Table → Type 0

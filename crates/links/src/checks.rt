@@ -1,5 +1,5 @@
 // Which values of the settings are good: what refuses a call before the table is looked at.
-use crate::DynamicArea;
+use crate::PerhapsArea;
 use crate::Settings;
 ghost use mathlib.Core.Path.{_≡_};
 ghost use Rattle.replies.specs.Rules.{refusal};
@@ -18,17 +18,17 @@ pub fn interface_ok(kind: u8, flag: u8) -> bool
     (1 <= kind) & (kind <= 3) & (flag <= 1)
 }
 
-pub fn dynamic_area_good(a: DynamicArea) -> bool
+pub fn dynamic_area_good(a: PerhapsArea) -> bool
     ensures { λ r. ⌜ r ≡ goodDynamic a ⌝ }
 {
     match a {
-        DynamicArea::Set(x) => area::good(x),
-        DynamicArea::Unset => true,
+        PerhapsArea::Set(x) => area::good(x),
+        PerhapsArea::Unset => true,
     }
 }
 
 // The number by which the settings alone refuse an enable: 1, 2, 3 in this order, or 0.
-pub fn refusal_of(s: Settings) -> u8
+pub fn settings_refusal(s: Settings) -> u8
     ensures { λ r. ⌜ r ≡ refusal (settingsRules s) ⌝ }
 {
     if !interface_ok(s.kind, s.flag) {

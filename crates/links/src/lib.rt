@@ -25,7 +25,7 @@ impl LinkIndex {
 pub const MOST: usize = 65;
 
 // What a fixed link is given at the start.
-pub struct FixedSettings {
+pub struct Interface {
     pub kind: u8,
     pub flag: u8,
 }
@@ -45,7 +45,7 @@ pub struct Slot {
 }
 
 // The area of the dynamic link.
-pub enum DynamicArea {
+pub enum PerhapsArea {
     Set(Area),
     Unset,
 }
@@ -53,9 +53,9 @@ pub enum DynamicArea {
 pub struct Table {
     pub own: u64,
     pub max: usize,
-    pub tvl: FixedSettings,
-    pub dgvl: FixedSettings,
-    pub area: DynamicArea,
+    pub tvl: Interface,
+    pub dgvl: Interface,
+    pub area: PerhapsArea,
     pub slots: [Slot; 64],
 }
 
@@ -94,7 +94,7 @@ pub fn blank_slot() -> Slot
 
 impl Table {
     // The table with no stop link enabled. A maximum above 65 finds no more than 64 slots.
-    pub fn fresh(own: u64, max: usize, tvl: FixedSettings, dgvl: FixedSettings) -> Self
+    pub fn fresh(own: u64, max: usize, tvl: Interface, dgvl: Interface) -> Self
         ensures { λ r. ⌜ r ≡ fresh (replicate 64 free) own max tvl dgvl ⌝ }
     {
         Table {
@@ -102,7 +102,7 @@ impl Table {
             max: max,
             tvl: tvl,
             dgvl: dgvl,
-            area: DynamicArea::Unset,
+            area: PerhapsArea::Unset,
             slots: [blank_slot(); 64],
         }
     }

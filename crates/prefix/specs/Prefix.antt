@@ -24,19 +24,19 @@ unfoldable pub overlap : Prefix → Prefix → Bool
 overlap p q = ltb 0 (p .len) && ltb 0 (q .len) && (holdsPrefix p q || holdsPrefix q p)
 
 -- fe80::/10 and ff00::/8
-abbrev pub linkLocal : Prefix
-linkLocal = record { len = 10; bytes = 0xfe ∷ 0x80 ∷ replicate 14 0 }
+abbrev pub linkLocalPrefix : Prefix
+linkLocalPrefix = record { len = 10; bytes = 0xfe ∷ 0x80 ∷ replicate 14 0 }
 
-abbrev pub multicast : Prefix
-multicast = record { len = 8; bytes = 0xff ∷ replicate 15 0 }
+abbrev pub multicastPrefix : Prefix
+multicastPrefix = record { len = 8; bytes = 0xff ∷ replicate 15 0 }
 
 -- no longer length, no bit set past the length, no overlap with fe80::/10 or ff00::/8
 unfoldable pub goodPrefix : Prefix → Bool
 goodPrefix p =
     leb (p .len) 128
     && allZero (drop (p .len) (bits (p .bytes)))
-    && not (overlap p linkLocal)
-    && not (overlap p multicast)
+    && not (overlap p linkLocalPrefix)
+    && not (overlap p multicastPrefix)
 
 -- as many bytes as a length needs; a length above 128 needs no more than an address has
 abbrev pub bytesNeeded : ℕ → ℕ

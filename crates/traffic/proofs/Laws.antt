@@ -1,5 +1,5 @@
 -- The laws of what arrives and leaves.
-pub mod Found
+pub mod Stops
 pub mod Demand3
 pub mod Choice
 pub mod Receive

@@ -40,10 +40,10 @@ indication transport source class destination packet = record {
 -- Refusals
 
 -- MID for transport 1, area for 2 and 3, nothing for 4; a MID is in range
-abbrev pub fitting : Destination → ℕ → Bool
-fitting (Mid m) n = eqb n 1 && midOk m
-fitting (Within a) n = eqb n 2 || eqb n 3
-fitting Nothing n = eqb n 4
+abbrev pub rightSort : Destination → ℕ → Bool
+rightSort (Mid m) n = eqb n 1 && midOk m
+rightSort (Within a) n = eqb n 2 || eqb n 3
+rightSort Nothing n = eqb n 4
 
 abbrev pub goodDestination : Destination → Bool
 goodDestination (Mid m) = true
@@ -53,7 +53,7 @@ goodDestination Nothing = true
 -- no table stands here: whether an indication is refused is no matter of the table
 unfoldable pub indicationRules : Indication → ℕ → List Rule
 indicationRules x room =
-    1 if not (midOk (x .source) && fitting (x .destination) (x .transport))
+    1 if not (midOk (x .source) && rightSort (x .destination) (x .transport))
     then 2 if not (goodDestination (x .destination))
     then packetRules (x .packet)
     ++ (13 if ltb room (length (x .packet) + 14) then [])
@@ -67,11 +67,11 @@ pub data Link : Type 0 where
   stop : ℕ → Settings → Link
 
 -- what looking for an enabled stop link finds
-pub data Found : Type 0 where
-  at : ℕ → Settings → Found
-  nowhere : Found
+pub data PerhapsStop : Type 0 where
+  at : ℕ → Settings → PerhapsStop
+  nowhere : PerhapsStop
 
-unfoldable pub stopBy : (Settings → Bool) → List Slot → Found
+unfoldable pub stopBy : (Settings → Bool) → List Slot → PerhapsStop
 stopBy q l = cond (any (with q) l) (at (place (with q) l) (getD l (place (with q) l) free .settings)) nowhere
 
 -- the destination is this area
@@ -91,7 +91,7 @@ byDestination x s = eqb (x .transport) 1 && reaches s (destination (x .packet))
 unfoldable pub bySource : Indication → Settings → Bool
 bySource x s = eqb (x .transport) 1 && reaches s (source (x .packet))
 
-abbrev pub failing : Found → Link → Link
+abbrev pub failing : PerhapsStop → Link → Link
 failing (at k s) l = stop k s
 failing nowhere l = l
 
@@ -125,8 +125,8 @@ macTo (Within a) = 2 ^ 48 - 1
 macTo Nothing = 2 ^ 48 - 1
 
 -- an Ethernet frame on kind 1, the packet alone on kinds 2 and 3
-unfoldable pub written : ℕ → Indication → List ℕ
-written kind x =
+unfoldable pub frameOrPacket : ℕ → Indication → List ℕ
+frameOrPacket kind x =
     cond (eqb kind 1)
     (frame (macTo (x .destination)) (x .source) (x .packet))
     (x .packet)
@@ -144,7 +144,7 @@ deliverAs w x buffer l = record {
 }
 
 abbrev pub deliver : Table → Indication → List ℕ → Link → Received
-deliver t x buffer l = deliverAs (written (kindOf t l) x) x buffer l
+deliver t x buffer l = deliverAs (frameOrPacket (kindOf t l) x) x buffer l
 
 abbrev pub refuse : ℕ → List ℕ → Received
 refuse n buffer = record { reply = record { number = n; link = NoLink; length = 0; source = 0; class = 0 }; buffer = buffer }

@@ -16,7 +16,7 @@ use Rattle.links.specs.Slots.{Has, counted}
 use Rattle.links.specs.Index.{enabledAt}
 use Rattle.links.specs.Reached.{Reached}
 use Rattle.links.specs.Demands.{TableDemand1, TableDemand2}
-use Rattle.traffic.specs.Arrives.{Indication, Link, topological, dynamic, stop, choose, kindOf, indexOf, written, indicationRules, receive}
+use Rattle.traffic.specs.Arrives.{Indication, Link, topological, dynamic, stop, choose, kindOf, indexOf, frameOrPacket, indicationRules, receive}
 use Rattle.traffic.specs.Leaves.{Request, requestRules, down, send, interfaceRules, interface}
 
 -- Demand 1
@@ -52,10 +52,10 @@ IsLink t (stop k s) = Has (counted t) k s
 pub record Delivers (t : Table) (x : Indication) (buffer : List ℕ) : Type 0 where
   pub isLink : IsLink t (choose (counted t) x)
   pub link : receive t x buffer .reply .link ≡ indexOf (choose (counted t) x)
-  pub frameLength : receive t x buffer .reply .length ≡ length (written (kindOf t (choose (counted t) x)) x)
+  pub frameLength : receive t x buffer .reply .length ≡ length (frameOrPacket (kindOf t (choose (counted t) x)) x)
   pub source : receive t x buffer .reply .source ≡ x .source
   pub class : receive t x buffer .reply .class ≡ x .class
-  pub front : take (receive t x buffer .reply .length) (receive t x buffer .buffer) ≡ written (kindOf t (choose (counted t) x)) x
+  pub front : take (receive t x buffer .reply .length) (receive t x buffer .buffer) ≡ frameOrPacket (kindOf t (choose (counted t) x)) x
   pub rest : drop (receive t x buffer .reply .length) (receive t x buffer .buffer) ≡ drop (receive t x buffer .reply .length) buffer
   pub size : length (receive t x buffer .buffer) ≡ length buffer
 

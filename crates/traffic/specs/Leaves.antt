@@ -10,16 +10,16 @@ use Rattle.ipv6.specs.declared.PerhapsMid.the-variants.{Mid as Known, Nothing a
 use Rattle.ipv6.specs.Address.{multicast}
 use Rattle.ipv6.specs.Packet.{destination, packetRules}
 use Rattle.ipv6.specs.Identifier.{midOf, linkLocal}
-use Rattle.links.specs.declared.DynamicArea.{DynamicArea}
-use Rattle.links.specs.declared.DynamicArea.the-variants.{Set, Unset}
-use Rattle.links.specs.declared.FixedSettings.{FixedSettings}
+use Rattle.links.specs.declared.PerhapsArea.{PerhapsArea}
+use Rattle.links.specs.declared.PerhapsArea.the-variants.{Set, Unset}
+use Rattle.links.specs.declared.Interface.{Interface}
 use Rattle.links.specs.declared.Table.{Table}
 use Rattle.links.specs.Settings.{midOk}
 use Rattle.links.specs.Slots.{counted}
 use Rattle.links.specs.Index.{enabledAt, interfaceAt, areaAt}
 use Rattle.traffic.specs.declared.Destination.{Destination}
 use Rattle.traffic.specs.declared.Destination.the-variants.{Mid, Within, Nothing}
-use Rattle.traffic.specs.declared.Interface.{Interface}
+use Rattle.traffic.specs.declared.InterfaceAddress.{InterfaceAddress}
 use Rattle.traffic.specs.declared.Sending.{Sending}
 
 pub record Request : Type 0 where
@@ -34,7 +34,7 @@ request index class neighbour packet = record { index = index; class = class; ne
 -- What is sent
 
 -- on kind 3, or with flag 1, the MID comes from the packet's destination; with flag 0 on kinds 1 and 2 it is the MID given
-unfoldable pub neighbourOf : FixedSettings → PerhapsMid → List ℕ → PerhapsMid
+unfoldable pub neighbourOf : Interface → PerhapsMid → List ℕ → PerhapsMid
 neighbourOf f given packet = cond (eqb (f .kind) 3 || eqb (f .flag) 1) (midOf (destination packet)) given
 
 -- multicast: TSB without destination on the TVL, GeoBroadcast to the link's area on the others
@@ -42,7 +42,7 @@ pub record Down : Type 0 where
   pub transport : ℕ
   pub destination : Destination
 
-abbrev pub within : DynamicArea → Destination
+abbrev pub within : PerhapsArea → Destination
 within (Set a) = Within a
 within Unset = Nothing
 
@@ -64,7 +64,7 @@ abbrev pub neighbourOk : PerhapsMid → Bool
 neighbourOk (Known m) = midOk m
 neighbourOk Unknown = true
 
-abbrev pub isUnset : DynamicArea → Bool
+abbrev pub isUnset : PerhapsArea → Bool
 isUnset (Set a) = false
 isUnset Unset = true
 
@@ -106,9 +106,9 @@ send t q = sending (refusal (requestRules t q)) t q
 unfoldable pub interfaceRules : Table → ℕ → List Rule
 interfaceRules t i = 7 if not (enabledAt (counted t) i) then []
 
-abbrev pub answerInterface : ℕ → Table → Interface
+abbrev pub answerInterface : ℕ → Table → InterfaceAddress
 answerInterface zero t = record { number = 0; mid = t .own; address = linkLocal (t .own) }
 answerInterface (suc n) t = record { number = suc n; mid = 0; address = replicate 16 0 }
 
-unfoldable pub interface : Table → ℕ → Interface
+unfoldable pub interface : Table → ℕ → InterfaceAddress
 interface t i = answerInterface (refusal (interfaceRules t i)) t

@@ -29,7 +29,7 @@ pub struct Sending {
 }
 
 // What the question for the interface address of a link answers.
-pub struct Interface {
+pub struct InterfaceAddress {
     pub number: u8,
     pub mid: u64,
     pub address: [u8; 16],

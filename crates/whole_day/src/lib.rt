@@ -1,7 +1,7 @@
 // A whole day file replayed in one call, for C to link: what the benchmark times. The answer is a checksum over the replies,
 // so that two programs that agree in it agree in every line of the listing.
 use dayfile::records;
-use links::FixedSettings;
+use links::Interface;
 use links::PerhapsLink;
 use links::Table;
 ghost use mathlib.Core.Path.{_≡_};
@@ -41,7 +41,7 @@ fn line_sum(sum: u64, number: u8, link: PerhapsLink, length: usize) -> u64
 fn unstarted() -> Table
     ensures { λ r. ⌜ r ≡ fresh (replicate 64 free) 0 2 plain plain ⌝ }
 {
-    let plain = FixedSettings { kind: 1, flag: 1 };
+    let plain = Interface { kind: 1, flag: 1 };
     Table::fresh(0, 2, plain, plain)
 }
 

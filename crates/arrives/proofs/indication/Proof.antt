@@ -11,15 +11,15 @@ use Rattle.links.specs.declared.PerhapsLink.the-variants.{Link}
 use Rattle.links.specs.Slots.{counted}
 use Rattle.links.specs.Index.{interfaceAt}
 use Rattle.traffic.specs.declared.Reception.{Reception}
-use Rattle.traffic.specs.Arrives.{Received, indication, indicationRules, byArea, byDestination, bySource, choose, kindOf, indexNumber, written, deliver}
-use Rattle.slots.proofs.Laws.Whole.{chosen-index, chosen-kind}
+use Rattle.traffic.specs.Arrives.{Received, indication, indicationRules, byArea, byDestination, bySource, choose, kindOf, indexNumber, frameOrPacket, deliver}
+use Rattle.value_slots.proofs.Laws.Whole.{chosen-index, chosen-kind}
 use Rattle.traffic.proofs.Laws.Choice.{kind-by-index}
 use Rattle.traffic.proofs.Laws.Receive.{received-refused, received, room-for}
 use Rattle.arrives.proofs.indication.Statement.{statement}
 use Rattle.arrives.proofs.indication.Tie as tie
 
-refusal-of-requires : tie.Need-refusal-of-requires
-refusal-of-requires c κs = search needs
+indication-refusal-requires : tie.Need-indication-refusal-requires
+indication-refusal-requires c κs = search needs
 
 returns : tie.Need-returns
 unfolding indicationRules
@@ -27,7 +27,7 @@ returns c =
     let args = c .before .before .before .before .args in
     let x = indication (args .transport) (args .source) (args .class) (args .d) (args .packet .now) in
     let out = args .out .now in
-    let bad = c .before .refusal-of in
+    let bad = c .before .indication-refusal in
     let refused = received-refused (args .t) x out (bad .result) (omega (arith, c .if1 .taken)) (sym (bad .ensures)) in
     (sym (ap (λ (r : Received). r .reply) refused), sym (ap (λ (r : Received). r .buffer) refused))
 
@@ -41,12 +41,12 @@ same-length : tie.Need-same-length
 same-length c = search needs
 
 returns-2 : tie.Need-returns-2
-unfolding indicationRules choose byArea byDestination bySource written
+unfolding indicationRules choose byArea byDestination bySource frameOrPacket
 returns-2 c =
     let args = c .before .before .before .before .before .before .before .before .before .args in
     let x = indication (args .transport) (args .source) (args .class) (args .d) (args .packet .now) in
     let out = args .out .now in
-    let good : refusal (indicationRules x (length out)) ≡ 0 = sym (c .before .before .before .before .before .before .refusal-of .ensures) ∙ c .before .before .before .before .before .if1 .left in
+    let good : refusal (indicationRules x (length out)) ≡ 0 = sym (c .before .before .before .before .before .before .indication-refusal .ensures) ∙ c .before .before .before .before .before .if1 .left in
     let done = received (args .t) x out good in
     let chosen = choose (counted (args .t)) x in
     let kind = c .before .before .before .before .link-of .result .kind in
@@ -55,10 +55,10 @@ returns-2 c =
     chosen-kind (args .t) (c .before .before .before .before .link-of .result) _ (c .before .before .before .before .link-of .ensures)
     ∙ ap (λ (n : ℕ). interfaceAt (args .t) n .kind) link-is
     ∙ sym (kind-by-index (args .t) x) in
-    let w = written kind x in
-    let w-is : w ≡ written (kindOf (args .t) chosen) x = ap (λ (n : ℕ). written n x) kind-is in
+    let w = frameOrPacket kind x in
+    let w-is : w ≡ frameOrPacket (kindOf (args .t) chosen) x = ap (λ (n : ℕ). frameOrPacket n x) kind-is in
     let room = room-for x (length out) kind good in
-    let length-is : c .before .before .write .result ≡ length (written (kindOf (args .t) chosen) x) =
+    let length-is : c .before .before .write .result ≡ length (frameOrPacket (kindOf (args .t) chosen) x) =
     c .before .before .write .ensures .0 ∙ put-length w out room ∙ ap length w-is in
     let reply-is : _≡_ {A = Reception} (record { number = 0; link = Link (record { 0 = c .before .before .before .before .link-of .result .index }); length = c .before .before .write .result; source = args .source; class = args .class }) (deliver (args .t) x out chosen .reply) =
     λ i. record { number = 0; link = Link (record { 0 = link-is i }); length = length-is i; source = args .source; class = args .class } in (
@@ -70,7 +70,7 @@ pub indication-spec : {M : Type 1} → statement M
 indication-spec =
     tie.close
     (tie.spec
-    refusal-of-requires
+    indication-refusal-requires
     returns
     link-of-requires
     write-requires

@@ -1,7 +1,7 @@
 -- `arrives::write` meets its contract.
 use borrow.Author.Tests.{eq-eqb, ne-eqb}
 use borrow.Author.Needs.{needs}
-use Rattle.traffic.specs.Arrives.{written}
+use Rattle.traffic.specs.Arrives.{frameOrPacket}
 use Rattle.arrives.proofs.write.Statement.{statement}
 use Rattle.arrives.proofs.write.Tie as tie
 
@@ -15,7 +15,7 @@ same-length : tie.Need-same-length
 same-length c = search needs
 
 returns : tie.Need-returns
-unfolding written
+unfolding frameOrPacket
 returns c = rw (eq-eqb _ 1 (c .before .before .before .before .before .if1 .taken), ← c .before .before .before .mac-to .ensures) (c .before .before .write-frame .ensures)
 
 write-packet-requires : tie.Need-write-packet-requires
@@ -25,7 +25,7 @@ same-length-2 : tie.Need-same-length-2
 same-length-2 c = search needs
 
 returns-2 : tie.Need-returns-2
-unfolding written
+unfolding frameOrPacket
 returns-2 c = rw (ne-eqb _ 1 (c .before .before .before .before .if1 .left)) (c .before .before .write-packet .ensures)
 
 pub write-spec : {M : Type 1} → statement M

@@ -5,7 +5,7 @@ use mathlib.Core.Path.{_≡_, sym, _∙_}
 use lib.ListN.{length}
 use borrow.Author.Needs.{needs}
 use Rattle.replay.specs.Replay.{stepAt}
-use Rattle.daylist.specs.Day.{lent, tableFrom, evening}
+use Rattle.daylist.specs.Day.{lent, tableFrom, eveningTable}
 use Rattle.record_laws.proofs.Laws.Next.{step-behind}
 use Rattle.daylist.proofs.Laws.Day.{day-goes-on, day-breaks, day-ends}
 use Rattle.daylist.proofs.list.Statement.{statement}
@@ -13,7 +13,7 @@ use Rattle.daylist.proofs.list.Tie as tie
 
 abbrev Inv-loop : tie.InvT-loop
 Inv-loop input started₀ t₀ at₀ line₀ started t at line =
-    (line ≤ at) × (at ≤ length input) × (evening input ≡ tableFrom (length input - line) input started t at)
+    (line ≤ at) × (at ≤ length input) × (eveningTable input ≡ tableFrom (length input - line) input started t at)
 
 abbrev μ-loop : tie.MeasureT-loop
 μ-loop input started₀ t₀ at₀ line₀ started t at line = length input - at
@@ -22,7 +22,7 @@ unstarted-requires : tie.Need-unstarted-requires Inv-loop μ-loop
 unstarted-requires c κs = search needs
 
 loop-holds : tie.Need-loop-holds Inv-loop μ-loop
-unfolding evening
+unfolding eveningTable
 loop-holds c =
     let all : length (c .before .before .args .input .now) - 0 ≡ length (c .before .before .args .input .now) = omega arith in
     (omega arith, omega arith, rw (c .unstarted .ensures, all))

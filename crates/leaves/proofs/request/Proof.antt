@@ -11,10 +11,10 @@ use Rattle.ipv6.specs.declared.PerhapsMid.the-variants.{Mid as Known, Nothing a
 use Rattle.ipv6.specs.Address.{multicast}
 use Rattle.ipv6.specs.Packet.{destination, packetRules}
 use Rattle.ipv6.proofs.Laws.Packet.{packet-numbered}
-use Rattle.links.specs.declared.FixedSettings.{FixedSettings}
+use Rattle.links.specs.declared.Interface.{Interface}
 use Rattle.links.specs.Index.{interfaceAt}
 use Rattle.traffic.specs.Leaves.{request, neighbourOf, resolveRules, requestRules, down}
-use Rattle.slots.proofs.Laws.Whole.{named-enabled, named-interface, named-area}
+use Rattle.value_slots.proofs.Laws.Whole.{named-enabled, named-interface, named-area}
 use Rattle.traffic.proofs.Laws.Send.{send-refused, send-done}
 use Rattle.leaves.proofs.request.Statement.{statement}
 use Rattle.leaves.proofs.request.Tie as tie
@@ -25,7 +25,7 @@ unfolding requestRules
 passed c =
     let p = c .before .before .before .before .before .before .before .before .args .packet .now in
     rw (← c .before .before .before .before .before .before .neighbour-ok .ensures, c .before .before .before .before .before .if1 .left, ← named-enabled _ (c .before .before .before .before .link-at .result) _ (c .before .before .before .before .link-at .ensures), c .before .before .if2 .left)
-    (refusal-past (packetRules p) _ (packet-numbered p) (sym (c .before .refusal-of .ensures) ∙ c .if3 .left))
+    (refusal-past (packetRules p) _ (packet-numbered p) (sym (c .before .packet-refusal .ensures) ∙ c .if3 .left))
 
 multi : (c : tie.After-is-multicast) → multicast (destination (c .before .before .before .before .before .before .before .before .before .before .args .packet .now)) ≡ c .is-multicast .result
 multi c = sym (c .is-multicast .ensures ∙ ap multicast (c .before .destination-of .ensures))
@@ -57,8 +57,8 @@ returns-2 c =
     c .refused2 .ensures
     ∙ sym (send-refused t q 7 (lit< tt) (rw (← c .before .before .before .before .before .neighbour-ok .ensures, c .before .before .before .before .if1 .left, ← named-enabled _ (c .before .before .before .link-at .result) _ (c .before .before .before .link-at .ensures), c .before .if2 .taken)))
 
-refusal-of-requires : tie.Need-refusal-of-requires
-refusal-of-requires c κs = search needs
+packet-refusal-requires : tie.Need-packet-refusal-requires
+packet-refusal-requires c κs = search needs
 
 refused-requires-3 : tie.Need-refused-requires-3
 refused-requires-3 c κs = search needs
@@ -68,7 +68,7 @@ unfolding requestRules
 returns-3 c =
     let t = c .before .before .before .before .before .before .before .before .before .args .t in
     let q = (request (c .before .before .before .before .before .before .before .before .before .args .index .0) (c .before .before .before .before .before .before .before .before .before .args .class) (c .before .before .before .before .before .before .before .before .before .args .neighbour) (c .before .before .before .before .before .before .before .before .before .args .packet .now)) in
-    let bad = c .before .before .refusal-of in
+    let bad = c .before .before .packet-refusal in
     let some : 0 < bad .result = omega (arith, c .before .if3 .taken) in
     c .refused3 .ensures
     ∙ sym (send-refused t q (bad .result) some
@@ -142,7 +142,7 @@ returns-7 c =
     let t = c .before .before .before .before .before .before .before .before .before .before .before .before .before .before .before .before .before .args .t in
     let q = (request (c .before .before .before .before .before .before .before .before .before .before .before .before .before .before .before .before .before .args .index .0) (c .before .before .before .before .before .before .before .before .before .before .before .before .before .before .before .before .before .args .class) (c .before .before .before .before .before .before .before .before .before .before .before .before .before .before .before .before .before .args .neighbour) (c .before .before .before .before .before .before .before .before .before .before .before .before .before .before .before .before .before .args .packet .now)) in
     let known : neighbourOf (interfaceAt t (q .index)) (q .neighbour) (q .packet) ≡ Known _ =
-    ap (λ (f : FixedSettings). neighbourOf f (q .neighbour) (q .packet)) (sym (named-interface _ (c .before .before .before .before .before .before .before .before .before .before .before .before .before .link-at .result) _ (c .before .before .before .before .before .before .before .before .before .before .before .before .before .link-at .ensures))) ∙ sym (c .before .before .before .before .neighbour-of .ensures) ∙ c .before .before .m .given .1 in
+    ap (λ (f : Interface). neighbourOf f (q .neighbour) (q .packet)) (sym (named-interface _ (c .before .before .before .before .before .before .before .before .before .before .before .before .before .link-at .result) _ (c .before .before .before .before .before .before .before .before .before .before .before .before .before .link-at .ensures))) ∙ sym (c .before .before .before .before .neighbour-of .ensures) ∙ c .before .before .m .given .1 in
     let ok : refusal (requestRules t q) ≡ 0 = passed (c .before .before .before .before .before .before .before .before .before) ∙ rw (multi (c .before .before .before .before .before .before .before), c .before .before .before .before .before .before .if4 .left, known) in
     c .sent3 .ensures ∙ sym (send-done t q ok ∙ rw (multi (c .before .before .before .before .before .before .before), c .before .before .before .before .before .before .if4 .left, known))
 
@@ -152,7 +152,7 @@ returns-8 c =
     let t = c .before .before .before .before .before .before .before .before .before .before .before .before .before .before .before .before .args .t in
     let q = (request (c .before .before .before .before .before .before .before .before .before .before .before .before .before .before .before .before .args .index .0) (c .before .before .before .before .before .before .before .before .before .before .before .before .before .before .before .before .args .class) (c .before .before .before .before .before .before .before .before .before .before .before .before .before .before .before .before .args .neighbour) (c .before .before .before .before .before .before .before .before .before .before .before .before .before .before .before .before .args .packet .now)) in
     let unknown : neighbourOf (interfaceAt t (q .index)) (q .neighbour) (q .packet) ≡ Unknown =
-    ap (λ (f : FixedSettings). neighbourOf f (q .neighbour) (q .packet)) (sym (named-interface _ (c .before .before .before .before .before .before .before .before .before .before .before .before .link-at .result) _ (c .before .before .before .before .before .before .before .before .before .before .before .before .link-at .ensures))) ∙ sym (c .before .before .before .neighbour-of .ensures) ∙ c .before .enum-told .given .1 in
+    ap (λ (f : Interface). neighbourOf f (q .neighbour) (q .packet)) (sym (named-interface _ (c .before .before .before .before .before .before .before .before .before .before .before .before .link-at .result) _ (c .before .before .before .before .before .before .before .before .before .before .before .before .link-at .ensures))) ∙ sym (c .before .before .before .neighbour-of .ensures) ∙ c .before .enum-told .given .1 in
     c .refused5 .ensures
     ∙ sym (send-refused t q 12 (lit< tt) (passed (c .before .before .before .before .before .before .before .before) ∙ rw (multi (c .before .before .before .before .before .before), c .before .before .before .before .before .if4 .left, unknown)))
 
@@ -166,7 +166,7 @@ request-spec =
     link-at-requires
     refused-requires-2
     returns-2
-    refusal-of-requires
+    packet-refusal-requires
     refused-requires-3
     returns-3
     destination-of-requires

@@ -11,7 +11,7 @@ use lib.Seq.{getD-set-same, getD-set-other}
 use borrow.Author.Tests.{ltb-true, ltb-false, not-true, not-false}
 use Rattle.replies.specs.Rules.{refusal, None, Exact}
 use Rattle.replies.proofs.Laws.Refusals.{done-exactly, none-right, exact}
-use Rattle.links.specs.declared.FixedSettings.{FixedSettings}
+use Rattle.links.specs.declared.Interface.{Interface}
 use Rattle.links.specs.declared.PerhapsLink.the-variants.{Nothing}
 use Rattle.links.specs.declared.Reply.{Reply}
 use Rattle.links.specs.declared.Settings.{Settings}
@@ -19,7 +19,7 @@ use Rattle.links.specs.declared.Slot.{Slot}
 use Rattle.links.specs.declared.Table.{Table}
 use Rattle.links.specs.Settings.{settingsRules}
 use Rattle.links.specs.Slots.{free, inUse, counted, slotAt, any, place, unused}
-use Rattle.links.specs.Calls.{Call, enable, disable, setArea, setOwn, slotRules, rules, linkAfter, tableAfter, answer, reply, withSlot, startRules, fresh, plain, begin, start}
+use Rattle.links.specs.Calls.{TableCall, enable, disable, setArea, setOwn, slotRules, rules, linkAfter, tableAfter, answer, reply, withSlot, startRules, fresh, plain, begin, start}
 use Rattle.links.specs.Reached.{Sound}
 use Rattle.links.specs.Demands.{Refuses, RefusesStart, TableDemand1, DifferAt, Adds, Removes, TableDemand2}
 use Rattle.links.proofs.Laws.Search.{any-place, before-place, at-place}
@@ -30,31 +30,31 @@ use Rattle.links.proofs.Laws.Sound.{sound}
 
 -- Demand 1
 
-number-is : (n : ℕ) (t : Table) (c : Call) → answer n t c .number ≡ n
+number-is : (n : ℕ) (t : Table) (c : TableCall) → answer n t c .number ≡ n
 number-is zero t c = refl
 number-is (suc n) t c = refl
 
-unchanged : (n : ℕ) (t : Table) (c : Call) → answer n t c .number ≢ 0 → (answer n t c .table ≡ t) × (answer n t c .link ≡ Nothing)
+unchanged : (n : ℕ) (t : Table) (c : TableCall) → answer n t c .number ≢ 0 → (answer n t c .table ≡ t) × (answer n t c .link ≡ Nothing)
 unchanged zero t c h = absurd (h refl)
 unchanged (suc n) t c h = (refl, refl)
 
-pub refuses : (t : Table) (c : Call) → Refuses t c
+pub refuses : (t : Table) (c : TableCall) → Refuses t c
 unfolding reply
 refuses t c = record {
   exact = subst (Exact (rules (counted t) c)) (sym (number-is (refusal (rules (counted t) c)) t c)) (exact (rules (counted t) c) (numbered (counted t) c));
   unchanged = unchanged (refusal (rules (counted t) c)) t c;
 }
 
-begin-number : (n : ℕ) (memory : List Slot) (own max : ℕ) (tvl dgvl : FixedSettings) → begin n memory own max tvl dgvl .number ≡ n
+begin-number : (n : ℕ) (memory : List Slot) (own max : ℕ) (tvl dgvl : Interface) → begin n memory own max tvl dgvl .number ≡ n
 begin-number zero memory own max tvl dgvl = refl
 begin-number (suc n) memory own max tvl dgvl = refl
 
-begin-plain : (n : ℕ) (memory : List Slot) (own max : ℕ) (tvl dgvl : FixedSettings) → begin n memory own max tvl dgvl .number ≢ 0
+begin-plain : (n : ℕ) (memory : List Slot) (own max : ℕ) (tvl dgvl : Interface) → begin n memory own max tvl dgvl .number ≢ 0
     → begin n memory own max tvl dgvl .table ≡ fresh memory 0 2 plain plain
 begin-plain zero memory own max tvl dgvl h = absurd (h refl)
 begin-plain (suc n) memory own max tvl dgvl h = refl
 
-pub refuses-start : (own max : ℕ) (tvl dgvl : FixedSettings) → RefusesStart own max tvl dgvl
+pub refuses-start : (own max : ℕ) (tvl dgvl : Interface) → RefusesStart own max tvl dgvl
 unfolding start startRules
 refuses-start own max tvl dgvl = record {
   exact =
@@ -70,7 +70,7 @@ table-demand-1 = (refuses, refuses-start)
 -- Demand 2
 
 -- an answer 0: no rule holds, and the table is the one after the call
-module _ (t : Table) (c : Call) (e : reply t c .number ≡ 0) where
+module _ (t : Table) (c : TableCall) (e : reply t c .number ≡ 0) where
   zero-given : refusal (rules (counted t) c) ≡ 0
   unfolding reply
   zero-given = sym (number-is (refusal (rules (counted t) c)) t c) ∙ e

@@ -12,14 +12,14 @@ use Rattle.links.specs.declared.Slot.{Slot}
 use Rattle.links.specs.declared.Table.{Table}
 use Rattle.links.specs.Settings.{settingsRules}
 use Rattle.links.specs.Slots.{counted}
-use Rattle.links.specs.Calls.{Call, enable, disable, setArea, setOwn, slotRules, rules, linkAfter, tableAfter, answer, reply}
+use Rattle.links.specs.Calls.{TableCall, enable, disable, setArea, setOwn, slotRules, rules, linkAfter, tableAfter, answer, reply}
 
-pub refused : (t : Table) (c : Call) (n : ℕ) → 0 < n → refusal (rules (counted t) c) ≡ n → reply t c ≡ record { number = n; link = Nothing; table = t }
+pub refused : (t : Table) (c : TableCall) (n : ℕ) → 0 < n → refusal (rules (counted t) c) ≡ n → reply t c ≡ record { number = n; link = Nothing; table = t }
 unfolding reply
 refused t c zero h e = absurd (omega arith)
 refused t c (suc n) h e = ap (λ (m : ℕ). answer m t c) e
 
-pub done : (t : Table) (c : Call) → refusal (rules (counted t) c) ≡ 0 → reply t c ≡ record { number = 0; link = linkAfter (counted t) c; table = tableAfter t c }
+pub done : (t : Table) (c : TableCall) → refusal (rules (counted t) c) ≡ 0 → reply t c ≡ record { number = 0; link = linkAfter (counted t) c; table = tableAfter t c }
 unfolding reply
 done t c e = ap (λ (m : ℕ). answer m t c) e
 
@@ -27,7 +27,7 @@ pub settings-numbered : (s : Settings) → Numbered (settingsRules s)
 unfolding settingsRules
 settings-numbered s = (lit< tt, (lit< tt, (lit< tt, tt)))
 
-pub numbered : (l : List Slot) (c : Call) → Numbered (rules l c)
+pub numbered : (l : List Slot) (c : TableCall) → Numbered (rules l c)
 unfolding rules settingsRules slotRules
 numbered l (enable s) = (lit< tt, (lit< tt, (lit< tt, (lit< tt, (lit< tt, (lit< tt, tt))))))
 numbered l (disable i) = (lit< tt, (lit< tt, tt))

@@ -11,14 +11,14 @@ use borrow.Author.Tests.{leb-true, ltb-true, ltb-false, not-false}
 use Rattle.octets.proofs.Laws.Tests.{clash}
 use Rattle.replies.specs.Rules.{refusal, None}
 use Rattle.replies.proofs.Laws.Refusals.{done-exactly, none-left, none-right}
-use Rattle.links.specs.declared.DynamicArea.{DynamicArea}
-use Rattle.links.specs.declared.FixedSettings.{FixedSettings}
+use Rattle.links.specs.declared.PerhapsArea.{PerhapsArea}
+use Rattle.links.specs.declared.Interface.{Interface}
 use Rattle.links.specs.declared.Settings.{Settings}
 use Rattle.links.specs.declared.Slot.{Slot}
 use Rattle.links.specs.declared.Table.{Table}
 use Rattle.links.specs.Settings.{midOk, interfaceOk, settingsRules, sameGround, overlaps}
 use Rattle.links.specs.Slots.{Has, free, inUse, counted, slotAt, any, place, unused, enabledCount}
-use Rattle.links.specs.Calls.{Call, enable, disable, setArea, setOwn, slotRules, rules, withSlot, withArea, withOwn, goodDynamic, startOk, startRules, cleared, fresh, plain, begin, start, tableAfter, answer, reply}
+use Rattle.links.specs.Calls.{TableCall, enable, disable, setArea, setOwn, slotRules, rules, withSlot, withArea, withOwn, goodDynamic, startOk, startRules, cleared, fresh, plain, begin, start, tableAfter, answer, reply}
 use Rattle.links.specs.Reached.{Reached, started, called, ByValue, Apart, Sound}
 use Rattle.links.proofs.Laws.Settings.{ground-sym, overlaps-sym}
 use Rattle.links.proofs.Laws.Search.{any-place}
@@ -27,12 +27,12 @@ use Rattle.links.proofs.Laws.Slots.{free-has-none, any-none, counted-wi
 use Rattle.links.proofs.Laws.Replaced.{room-with, few-with, rest-with, blank-with, filled, apart-filled, freed}
 use Rattle.links.proofs.Laws.Replies.{settings-numbered, numbered}
 
-start-ok : (most own max : ℕ) (tvl dgvl : FixedSettings) → refusal (startRules most own max tvl dgvl) ≡ 0 → startOk most own max tvl dgvl ≡ true
+start-ok : (most own max : ℕ) (tvl dgvl : Interface) → refusal (startRules most own max tvl dgvl) ≡ 0 → startOk most own max tvl dgvl ≡ true
 unfolding startRules
 start-ok most own max tvl dgvl e = not-false (startOk most own max tvl dgvl) (done-exactly (startRules most own max tvl dgvl) (lit< tt, tt) .0 e .0)
 
 module _ (most : ℕ) (memory : List Slot) where
-  start-sound : (own max : ℕ) (tvl dgvl : FixedSettings) → refusal (startRules most own max tvl dgvl) ≡ 0 → max - 1 ≤ length memory → Sound most memory (fresh memory own max tvl dgvl)
+  start-sound : (own max : ℕ) (tvl dgvl : Interface) → refusal (startRules most own max tvl dgvl) ≡ 0 → max - 1 ≤ length memory → Sound most memory (fresh memory own max tvl dgvl)
   unfolding fresh
   start-sound own max tvl dgvl e h =
       let g = simp and-eq-true-iff at (start-ok most own max tvl dgvl e) in
@@ -113,7 +113,7 @@ module _ (most : ℕ) (memory : List Slot) where
       }
 
   -- another own MID or area of the dynamic link, and nothing else
-  head-sound : (t : Table) (m : ℕ) (a : DynamicArea) → m < 2 ^ 48 → goodDynamic a ≡ true → Sound most memory t
+  head-sound : (t : Table) (m : ℕ) (a : PerhapsArea) → m < 2 ^ 48 → goodDynamic a ≡ true → Sound most memory t
       → Sound most memory (withArea (withOwn t m) a)
   head-sound t m a own area h =
       record {
@@ -132,14 +132,14 @@ module _ (most : ℕ) (memory : List Slot) where
         rest = h .rest;
       }
 
-  after : (t : Table) (c : Call) → Sound most memory t → None (rules (counted t) c) → Sound most memory (tableAfter t c)
+  after : (t : Table) (c : TableCall) → Sound most memory t → None (rules (counted t) c) → Sound most memory (tableAfter t c)
   unfolding tableAfter rules
   after t (enable s) h n = enable-sound t s h n
   after t (disable i) h n = disable-sound t i h n
   after t (setArea a) h n = head-sound t (t .own) a (h .own) (not-false (goodDynamic a) (n .0)) h
   after t (setOwn m) h n = head-sound t m (t .area) (ltb-true m (2 ^ 48) (not-false (midOk m) (n .0))) (h .area) h
 
-  answered : (n : ℕ) (t : Table) (c : Call) → refusal (rules (counted t) c) ≡ n → Sound most memory t → Sound most memory (answer n t c .table)
+  answered : (n : ℕ) (t : Table) (c : TableCall) → refusal (rules (counted t) c) ≡ n → Sound most memory t → Sound most memory (answer n t c .table)
   answered zero t c e h = after t c h (done-exactly (rules (counted t) c) (numbered (counted t) c) .0 e)
   answered (suc n) t c e h = h
 
@@ -149,7 +149,7 @@ sound {most} {memory} (started own max tvl dgvl e r) = start-sound most memory o
 sound {most} {memory} (called {t = t} h c) = answered most memory (refusal (rules (counted t) c)) t c refl (sound h)
 
 -- the table that a start by value returns, refused or not
-pub start-reached : (own max : ℕ) (tvl dgvl : FixedSettings) → ByValue (start own max tvl dgvl .table)
+pub start-reached : (own max : ℕ) (tvl dgvl : Interface) → ByValue (start own max tvl dgvl .table)
 unfolding start startRules interfaceOk
 start-reached own max tvl dgvl = go (refusal (startRules 65 own max tvl dgvl)) refl
   where

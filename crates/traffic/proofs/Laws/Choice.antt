@@ -17,8 +17,8 @@ use Rattle.links.specs.Settings.{reaches}
 use Rattle.links.specs.Slots.{free, counted, any, place, with}
 use Rattle.links.specs.Index.{interfaceAt}
 use Rattle.links.proofs.Laws.Counted.{slot-of-stop}
-use Rattle.traffic.specs.Arrives.{Indication, Link, topological, dynamic, stop, Found, at, nowhere, stopBy, isArea, byArea, byDestination, bySource, failing, choose, kindOf, indexNumber}
-use Rattle.traffic.proofs.Laws.Found.{found-at}
+use Rattle.traffic.specs.Arrives.{Indication, Link, topological, dynamic, stop, PerhapsStop, at, nowhere, stopBy, isArea, byArea, byDestination, bySource, failing, choose, kindOf, indexNumber}
+use Rattle.traffic.proofs.Laws.Stops.{found-at}
 
 -- tests that answer alike find alike
 found-alike : (p q : Settings → Bool) (l : List Slot) → ((s : Settings) → p s ≡ q s) → stopBy p l ≡ stopBy q l
@@ -122,7 +122,7 @@ kind-by-index t x = first (eqb (x .transport) 4)
     by : (q : Settings → Bool) (k : Link) → Right k → Right (failing (stopBy q (counted t)) k)
     by q k r = go (stopBy q (counted t)) refl
       where
-        go : (f : Found) → stopBy q (counted t) ≡ f → Right (failing f k)
+        go : (f : PerhapsStop) → stopBy q (counted t) ≡ f → Right (failing f k)
         go (at j s) e =
             rw (ne-eqb (j + 2) 0 (λ z. omega arith), ne-eqb (j + 2) 1 (λ z. omega arith), slot-of-stop (counted t) (j + 2) (let stop : 2 ≤ j + 2 = omega arith in stop), add-sub-cancel j 2, found-at q (counted t) j s e .0)
         go nowhere e = r

@@ -10,7 +10,7 @@ use borrow.Author.Tests.{eqb-true}
 use Rattle.octets.proofs.Laws.Tests.{clash}
 use Rattle.replies.specs.Rules.{refusal}
 use Rattle.ipv6.specs.Packet.{source, destination}
-use Rattle.links.specs.declared.FixedSettings.{FixedSettings}
+use Rattle.links.specs.declared.Interface.{Interface}
 use Rattle.links.specs.declared.Settings.{Settings}
 use Rattle.links.specs.declared.Slot.{Slot}
 use Rattle.links.specs.declared.Table.{Table}
@@ -21,9 +21,9 @@ use Rattle.links.proofs.Laws.Settings.{ground-one, ground-alike, reaches-one, r
 use Rattle.links.proofs.Laws.Sound.{sound}
 use Rattle.traffic.specs.declared.Destination.{Destination}
 use Rattle.traffic.specs.declared.Destination.the-variants.{Mid, Within, Nothing}
-use Rattle.traffic.specs.Arrives.{Indication, Received, Link, topological, dynamic, stop, Found, at, nowhere, stopBy, isArea, byArea, byDestination, bySource, failing, choose, written, deliverAs, deliver, unless, indicationRules, receive}
+use Rattle.traffic.specs.Arrives.{Indication, Received, Link, topological, dynamic, stop, PerhapsStop, at, nowhere, stopBy, isArea, byArea, byDestination, bySource, failing, choose, frameOrPacket, deliverAs, deliver, unless, indicationRules, receive}
 use Rattle.traffic.specs.Demand3.{Lacks, Wider, OnStop, Follows, refusesAlike, topologicalStays, stopStays, stopMoves, dynamicStays, dynamicMoves, Demand3, Demand3OfCalls}
-use Rattle.traffic.proofs.Laws.Found.{found-at, found-nowhere}
+use Rattle.traffic.proofs.Laws.Stops.{found-at, found-nowhere}
 
 -- A test by which line 2 or 3 looks for a link: equal settings answer it alike, and in a sound table one link at most passes it.
 record Line (q : Settings → Bool) : Type 0 where
@@ -82,7 +82,7 @@ unfolding byDestination
 holding x s e = (simp (byDestination, and-eq-true-iff) at e) .1
 
 -- what such a test finds in the first table and in the second
-data Compare (t u : Table) (q : Settings → Bool) : Found → Found → Type 0 where
+data Compare (t u : Table) (q : Settings → Bool) : PerhapsStop → PerhapsStop → Type 0 where
   both : (j k : ℕ) (r s : Settings) → Has (counted t) j r → Has (counted u) k s → Same r s → Compare t u q (at j r) (at k s)
   new : (k : ℕ) (s : Settings) → Has (counted u) k s → Lacks t s → q s ≡ true → Compare t u q nowhere (at k s)
   neither : Compare t u q nowhere nowhere
@@ -91,7 +91,7 @@ module _ (t u : Table) (w : Wider t u) where
   compare : (q : Settings → Bool) → Line q → Compare t u q (stopBy q (counted t)) (stopBy q (counted u))
   compare q line = go (stopBy q (counted t)) (stopBy q (counted u)) refl refl
     where
-      go : (f g : Found) → stopBy q (counted t) ≡ f → stopBy q (counted u) ≡ g → Compare t u q f g
+      go : (f g : PerhapsStop) → stopBy q (counted t) ≡ f → stopBy q (counted u) ≡ g → Compare t u q f g
       go (at j r) (at k s) e f =
           let a = found-at q (counted t) j r e in
           let b = found-at q (counted u) k s f in
@@ -123,7 +123,7 @@ module _ (t u : Table) (w : Wider t u) where
 
     stays : (j k : ℕ) (r s : Settings) → Has (counted t) j r → Has (counted u) k s → Same r s → Follows t u x buffer (First (stop j r)) (Second (stop k s))
     stays j k r s a b same =
-        let w : written (r .kind) x ≡ written (s .kind) x = ap (λ (n : ℕ). written n x) (same .kind) in
+        let w : frameOrPacket (r .kind) x ≡ frameOrPacket (s .kind) x = ap (λ (n : ℕ). frameOrPacket n x) (same .kind) in
         stopStays j k r s (on-first j r a) (on-second k s b) same
         (record {
           number = refl;
@@ -134,7 +134,7 @@ module _ (t u : Table) (w : Wider t u) where
         })
 
     -- line 2 finds a link in the second table alone
-    by-area : (k : ℕ) (s : Settings) → Has (counted u) k s → Lacks t s → byArea x s ≡ true → (d e : Found) → stopBy (byDestination x) (counted t) ≡ d → stopBy (bySource x) (counted t) ≡ e
+    by-area : (k : ℕ) (s : Settings) → Has (counted u) k s → Lacks t s → byArea x s ≡ true → (d e : PerhapsStop) → stopBy (byDestination x) (counted t) ≡ d → stopBy (bySource x) (counted t) ≡ e
         → Follows t u x buffer (First (failing d (failing e dynamic))) (Second (stop k s))
     by-area k s b l p (at j r) e q f = absurd (not-destination x s r p (found-at _ (counted t) j r q .1))
     by-area k s b l p nowhere (at j r) q f = absurd (not-source x s r p (found-at _ (counted t) j r f .1))
@@ -142,17 +142,17 @@ module _ (t u : Table) (w : Wider t u) where
 
     -- the destination finds a link in the second table alone
     by-destination : (k : ℕ) (s : Settings) → Has (counted u) k s → Lacks t s → byDestination x s ≡ true → stopBy (byDestination x) (counted t) ≡ nowhere
-        → (e : Found) → stopBy (bySource x) (counted t) ≡ e → Follows t u x buffer (First (failing e dynamic)) (Second (stop k s))
+        → (e : PerhapsStop) → stopBy (bySource x) (counted t) ≡ e → Follows t u x buffer (First (failing e dynamic)) (Second (stop k s))
     by-destination k s b l p q (at j r) f =
         stopMoves j k r s (on-first j r (found-at _ (counted t) j r f .0)) (record { destination = q; source = f }) (on-second k s b) l (holding x s p)
     by-destination k s b l p q nowhere f = dynamicMoves k s refl (on-second k s b) l
 
-    by-source : {e e′ : Found} → Compare t u (bySource x) e e′ → Follows t u x buffer (First (failing e dynamic)) (Second (failing e′ dynamic))
+    by-source : {e e′ : PerhapsStop} → Compare t u (bySource x) e e′ → Follows t u x buffer (First (failing e dynamic)) (Second (failing e′ dynamic))
     by-source (both j k r s a b same) = stays j k r s a b same
     by-source (new k s b l p) = dynamicMoves k s refl (on-second k s b) l
-    by-source neither = dynamicStays refl (ap (λ (f : FixedSettings). deliverAs (written (f .kind) x) x buffer dynamic) (w .dgvl))
+    by-source neither = dynamicStays refl (ap (λ (f : Interface). deliverAs (frameOrPacket (f .kind) x) x buffer dynamic) (w .dgvl))
 
-    lines : {a a′ d d′ e e′ : Found} → Compare t u (byArea x) a a′ → Compare t u (byDestination x) d d′ → Compare t u (bySource x) e e′
+    lines : {a a′ d d′ e e′ : PerhapsStop} → Compare t u (byArea x) a a′ → Compare t u (byDestination x) d d′ → Compare t u (bySource x) e e′
         → stopBy (byDestination x) (counted t) ≡ d → stopBy (bySource x) (counted t) ≡ e
         → Follows t u x buffer (First (failing a (failing d (failing e dynamic)))) (Second (failing a′ (failing d′ (failing e′ dynamic))))
     lines (both j k r s a b same) cd ce q f = stays j k r s a b same
@@ -164,7 +164,7 @@ module _ (t u : Table) (w : Wider t u) where
     chosen : (b : Bool) → Follows t u x buffer
         (First (cond b topological (failing (stopBy (byArea x) (counted t)) (failing (stopBy (byDestination x) (counted t)) (failing (stopBy (bySource x) (counted t)) dynamic)))))
         (Second (cond b topological (failing (stopBy (byArea x) (counted u)) (failing (stopBy (byDestination x) (counted u)) (failing (stopBy (bySource x) (counted u)) dynamic)))))
-    chosen true = topologicalStays refl (ap (λ (f : FixedSettings). deliverAs (written (f .kind) x) x buffer topological) (w .tvl))
+    chosen true = topologicalStays refl (ap (λ (f : Interface). deliverAs (frameOrPacket (f .kind) x) x buffer topological) (w .tvl))
     chosen false = lines (compare _ (line-area x)) (compare _ (line-destination x)) (compare _ (line-source x)) refl refl
 
     outcome : (n : ℕ) → Follows t u x buffer (unless n buffer (First (choose (counted t) x))) (unless n buffer (Second (choose (counted u) x)))

@@ -17,12 +17,12 @@ use Rattle.links.specs.declared.Table.{Table}
 use Rattle.links.specs.Slots.{counted}
 use Rattle.links.specs.Index.{enabledAt}
 use Rattle.links.proofs.Laws.Demands.{table-demand-1, table-demand-2}
-use Rattle.traffic.specs.declared.Interface.{Interface}
+use Rattle.traffic.specs.declared.InterfaceAddress.{InterfaceAddress}
 use Rattle.traffic.specs.declared.Sending.{Sending}
-use Rattle.traffic.specs.Arrives.{Indication, Received, Link, topological, dynamic, Found, at, nowhere, stopBy, byArea, byDestination, bySource, failing, choose, kindOf, written, deliver, refuse, unless, indicationRules, receive}
+use Rattle.traffic.specs.Arrives.{Indication, Received, Link, topological, dynamic, PerhapsStop, at, nowhere, stopBy, byArea, byDestination, bySource, failing, choose, kindOf, frameOrPacket, deliver, refuse, unless, indicationRules, receive}
 use Rattle.traffic.specs.Leaves.{Request, requestRules, sending, send, interfaceRules, answerInterface, interface}
 use Rattle.traffic.specs.Demands.{RefusesIndication, RefusesRequest, Demand1, IsLink, Delivers, Sends, Addresses, Demand2}
-use Rattle.traffic.proofs.Laws.Found.{found-at}
+use Rattle.traffic.proofs.Laws.Stops.{found-at}
 use Rattle.traffic.proofs.Laws.Receive.{indication-numbered, received, room-for}
 use Rattle.traffic.proofs.Laws.Send.{request-numbered, interface-numbered, send-done}
 
@@ -94,7 +94,7 @@ chosen-link t x = first (eqb (x .transport) 4)
     by : (q : Settings → Bool) (k : Link) → IsLink t k → IsLink t (failing (stopBy q (counted t)) k)
     by q k r = go (stopBy q (counted t)) refl
       where
-        go : (f : Found) → stopBy q (counted t) ≡ f → IsLink t (failing f k)
+        go : (f : PerhapsStop) → stopBy q (counted t) ≡ f → IsLink t (failing f k)
         go (at j s) e = found-at q (counted t) j s e .0
         go nowhere e = r
 
@@ -109,7 +109,7 @@ module _ (t : Table) where
       let good : refusal (indicationRules x (length buffer)) ≡ 0 = sym (number-given t x buffer (refusal (indicationRules x (length buffer)))) ∙ e in
       let done = received t x buffer good in
       let kind = kindOf t (choose (counted t) x) in
-      let w = written kind x in
+      let w = frameOrPacket kind x in
       let room = room-for x (length buffer) kind good in
       record {
         isLink = chosen-link t x;
@@ -148,8 +148,8 @@ module _ (t : Table) where
       let done : interface t i ≡ record { number = 0; mid = t .own; address = linkLocal (t .own) } =
       ap (λ (n : ℕ). answerInterface n t) (sym (number-of-interface (refusal (interfaceRules t i)) t) ∙ e) in
       record {
-        mid = ap (λ (r : Interface). r .mid) done;
-        address = ap (λ (r : Interface). r .address) done;
+        mid = ap (λ (r : InterfaceAddress). r .mid) done;
+        address = ap (λ (r : InterfaceAddress). r .address) done;
       }
 
 pub demand-2 : Demand2

@@ -15,7 +15,7 @@ use Rattle.frames.specs.Frame.{frame}
 use Rattle.frames.proofs.Laws.Grow.{frame-length}
 use Rattle.links.specs.declared.Table.{Table}
 use Rattle.links.specs.Slots.{counted}
-use Rattle.traffic.specs.Arrives.{Indication, macTo, indicationRules, choose, written, deliver, refuse, unless, receive}
+use Rattle.traffic.specs.Arrives.{Indication, macTo, indicationRules, choose, frameOrPacket, deliver, refuse, unless, receive}
 
 pub indication-numbered : (x : Indication) (room : ℕ) → Numbered (indicationRules x room)
 unfolding indicationRules
@@ -33,8 +33,8 @@ module _ (t : Table) (x : Indication) (buffer : List ℕ) where
   received e = ap (λ (m : ℕ). unless m buffer (deliver t x buffer (choose (counted t) x))) e
 
 -- a frame is 14 bytes longer than its packet, and that much room there is
-pub room-for : (x : Indication) (room kind : ℕ) → refusal (indicationRules x room) ≡ 0 → length (written kind x) ≤ room
-unfolding indicationRules written
+pub room-for : (x : Indication) (room kind : ℕ) → refusal (indicationRules x room) ≡ 0 → length (frameOrPacket kind x) ≤ room
+unfolding indicationRules frameOrPacket
 room-for x room kind e =
     let none = done-exactly (indicationRules x room) (indication-numbered x room) .0 e in
     let enough : length (x .packet) + 14 ≤ room = ltb-false room (length (x .packet) + 14) (none-right (packetRules (x .packet)) _ (none .1 .1) .0) in

@@ -7,14 +7,14 @@ use borrow.Author.Needs.{needs}
 use borrow.Author.Tests.{ltb-true, ltb-false, eq-eqb, ne-eqb}
 use Rattle.dayfile.specs.Records.{recordAt}
 use Rattle.record_laws.proofs.Laws.Next.{alters-behind}
-use Rattle.whole_day.specs.Day.{Box, rest, ended, unstarted, evening}
+use Rattle.whole_day.specs.Day.{Box, rest, ended, unstarted, eveningBox}
 use Rattle.whole_day.proofs.Laws.Rest.{altered-behind, line-behind, again, stopped, read-all, no-turn}
 use Rattle.whole_day.proofs.gn6_whole_day.Statement.{statement}
 use Rattle.whole_day.proofs.gn6_whole_day.Tie as tie
 
 abbrev Inv-loop : tie.InvT-loop
 Inv-loop input out₀ started₀ t₀ at₀ sum₀ turns₀ out started t at sum turns =
-    (rest turns input (record { started = started; table = t; at = at; sum = sum; buffer = out }) ≡ evening input out₀) × (length out ≡ length out₀)
+    (rest turns input (record { started = started; table = t; at = at; sum = sum; buffer = out }) ≡ eveningBox input out₀) × (length out ≡ length out₀)
 
 abbrev μ-loop : tie.MeasureT-loop
 μ-loop input out₀ started₀ t₀ at₀ sum₀ turns₀ out started t at sum turns = turns
@@ -23,7 +23,7 @@ unstarted-requires : tie.Need-unstarted-requires Inv-loop μ-loop
 unstarted-requires c κs = search needs
 
 loop-holds : tie.Need-loop-holds Inv-loop μ-loop
-unfolding evening unstarted
+unfolding eveningBox unstarted
 loop-holds c = (rw (c .unstarted .ensures), refl)
 
 read-requires : tie.Need-read-requires Inv-loop μ-loop

@@ -9,8 +9,8 @@ use Rattle.links.specs.Settings.{sameGround, reaches}
 use Rattle.links.specs.Slots.{counted}
 use Rattle.traffic.specs.Arrives.{indication, indexNumber}
 use Rattle.traffic.proofs.Laws.Choice.{IndexOr, choose-topological, choose-other, index-unicast, index-area, index-no-area, index-kept, index-failing}
-use Rattle.slots.proofs.Laws.Whole.{chosen-is, chosen-index, chosen-kind}
-use Rattle.slots.proofs.Laws.Kinds.{topological-kind, dynamic-kind}
+use Rattle.value_slots.proofs.Laws.Whole.{chosen-is, chosen-index, chosen-kind}
+use Rattle.value_slots.proofs.Laws.Kinds.{topological-kind, dynamic-kind}
 use Rattle.arrives.proofs.choice.link_of.Statement.{statement}
 use Rattle.arrives.proofs.choice.link_of.Tie as tie
 

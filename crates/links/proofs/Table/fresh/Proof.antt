@@ -3,7 +3,7 @@ use Prim.Native.Nat.{_-_}
 use mathlib.Core.Path.{sym, _∙_, ap}
 use lib.ListN.{replicate}
 use borrow.Author.Needs.{needs}
-use Rattle.links.specs.declared.DynamicArea.the-variants.{Unset}
+use Rattle.links.specs.declared.PerhapsArea.the-variants.{Unset}
 use Rattle.links.specs.declared.Slot.{Slot}
 use Rattle.links.specs.Calls.{fresh}
 use Rattle.links.proofs.Laws.Fresh.{cleared-free}

@@ -1,0 +1,34 @@
+-- What the search over slots looks for, by the question asked.
+use Prim.Native.Nat.{ℕ}
+use mathlib.Core.Bool.{Bool}
+use mathlib.Core.List.{List}
+use lib.ListN.{getD}
+use Rattle.links.specs.declared.Settings.{Settings}
+use Rattle.links.specs.declared.Slot.{Slot}
+use Rattle.links.specs.declared.Table.{Table}
+use Rattle.links.specs.Settings.{sameGround, overlaps, reaches}
+use Rattle.links.specs.Index.{enabledAt, interfaceAt, areaAt}
+use Rattle.links.specs.Slots.{free, counted, unused, with}
+use Rattle.value_slots.specs.declared.Chosen.{Chosen}
+use Rattle.value_slots.specs.declared.Found.{Found}
+use Rattle.value_slots.specs.declared.index.Named.{Named}
+use Rattle.value_slots.specs.declared.Wanted.{Wanted}
+use Rattle.value_slots.specs.declared.Wanted.the-variants.{Unused, SameGround, Overlapping, Reaching}
+
+abbrev pub passes : Wanted → Settings → List ℕ → Slot → Bool
+passes Unused s address = unused
+passes SameGround s address = with (λ r. sameGround r s)
+passes Overlapping s address = with (λ r. overlaps r s)
+passes Reaching s address = with (λ r. reaches r address)
+
+-- a slot by its place, and the kind that it has
+abbrev pub found : Table → ℕ → Found
+found t k = record { place = k; kind = getD (counted t) k free .settings .kind }
+
+-- a link by its index, and its kind
+abbrev pub chosen : Table → ℕ → Chosen
+chosen t i = record { index = i; kind = interfaceAt t i .kind }
+
+-- what a request asks of a link
+abbrev pub named : Table → ℕ → Named
+named t i = record { enabled = enabledAt (counted t) i; interface = interfaceAt t i; area = areaAt t i }

@@ -1,0 +1,145 @@
+// The slots of a table by value: read one, replace one, and look for one. Every question about the enabled links, and the lowest
+// unused index, is asked of the one loop in `find`.
+pub mod index;
+
+use links::LinkIndex;
+use links::Settings;
+use links::Slot;
+use links::Table;
+ghost use mathlib.Core.Path.{_≡_};
+ghost use mathlib.Core.List.{[]};
+ghost use mathlib.Core.Bool.{cond};
+ghost use Prim.Native.Nat.{_+_, _-_, min};
+ghost use Rattle.links.specs.Slots.{counted, slotAt, any, place, unused};
+ghost use Rattle.links.specs.Calls.{withSlot};
+ghost use Rattle.value_slots.specs.Search.{passes, found, chosen};
+
+// Which slot is looked for.
+pub enum Wanted {
+    Unused,
+    SameGround,
+    Overlapping,
+    Reaching,
+}
+
+// Settings and address that no question needs are not looked at.
+fn is_wanted(x: Slot, wanted: Wanted, s: Settings, address: &[u8]) -> bool
+    ensures { λ r. ⌜ r ≡ passes wanted s (now (address .entry)) x ⌝ }
+{
+    let r = x.settings;
+    let on = x.enabled;
+    match wanted {
+        Wanted::Unused => !on,
+        Wanted::SameGround => on && area::equal(r.area, s.area),
+        Wanted::Overlapping => on && prefix::overlaps(r.prefix, s.prefix),
+        Wanted::Reaching => on && prefix::holds_address(r.prefix, address),
+    }
+}
+
+// How many slots count.
+fn slot_count(max: usize) -> usize
+    ensures { λ r. ⌜ r ≡ min (max - 1) 64 ⌝ }
+{
+    if max == 0 {
+        return 0;
+    }
+    if max < 65 { max - 1 } else { 64 }
+}
+
+// The first slot that is wanted: its place, and its kind. Where there is none, the number of slots that count, and 0.
+pub struct Found {
+    pub place: usize,
+    pub kind: u8,
+}
+
+// A link by its index, and its kind.
+pub struct Chosen {
+    pub index: usize,
+    pub kind: u8,
+}
+
+// The one loop. The kind comes with the place because each function that reads a slot of its table copies the whole table.
+fn find(t: Table, wanted: Wanted, s: Settings, address: &[u8]) -> Found
+    ensures { λ r. ⌜ r ≡ found t (place (passes wanted s (now (address .entry))) (counted t)) ⌝ }
+{
+    let n = slot_count(t.max);
+    let mut i: usize = 0;
+    while i < n {
+        let x = t.slots[i];
+        if is_wanted(x, wanted, s, address) {
+            let r = x.settings;
+            return Found {
+                place: i,
+                kind: r.kind,
+            };
+        }
+        i += 1;
+    }
+    Found { place: i, kind: 0 }
+}
+
+// The place of the first slot that is wanted; the number of slots that count where there is none.
+fn first_place(t: Table, wanted: Wanted, s: Settings, address: &[u8]) -> usize
+    ensures { λ r. ⌜ r ≡ place (passes wanted s (now (address .entry))) (counted t) ⌝ }
+{
+    let f = find(t, wanted, s, address);
+    f.place
+}
+
+// Is there a slot that is wanted? No address is asked for.
+pub fn has(t: Table, wanted: Wanted, s: Settings) -> bool
+    ensures { λ r. ⌜ r ≡ any (passes wanted s []) (counted t) ⌝ }
+{
+    first_place(t, wanted, s, b"") < slot_count(t.max)
+}
+
+// The link of the first slot that is wanted, or the dynamic link.
+pub fn link_or_dynamic(t: Table, wanted: Wanted, s: Settings, address: &[u8]) -> Chosen
+    ensures { λ r. ⌜ r ≡ chosen t (cond (any (passes wanted s (now (address .entry))) (counted t)) (place (passes wanted s (now (address .entry))) (counted t) + 2) 1) ⌝ }
+{
+    let f = find(t, wanted, s, address);
+    let dgvl = t.dgvl;
+    if f.place < slot_count(t.max) {
+        return Chosen {
+            index: f.place + 2,
+            kind: f.kind,
+        };
+    }
+    Chosen {
+        index: LinkIndex::DGVL.0,
+        kind: dgvl.kind,
+    }
+}
+
+// The place of the lowest unused index; the number of slots that count where all are in use.
+pub fn first_unused(t: Table) -> usize
+    ensures { λ r. ⌜ r ≡ place unused (counted t) ⌝ }
+{
+    let any = links::blank_slot();
+    first_place(t, Wanted::Unused, any.settings, b"")
+}
+
+// The slot of a link; a blank one for a fixed link and for an index that does not count.
+pub fn slot_at(t: Table, index: LinkIndex) -> Slot
+    ensures { λ r. ⌜ r ≡ slotAt (counted t) (index .0) ⌝ }
+{
+    let i = index.0;
+    if i < 2 {
+        return links::blank_slot();
+    }
+    let k = i - 2;
+    if slot_count(t.max) <= k {
+        return links::blank_slot();
+    }
+    t.slots[k]
+}
+
+// The table with another slot k; past the last slot there is none to replace.
+pub fn with_slot(mut t: Table, k: usize, x: Slot) -> Table
+    ensures { λ r. ⌜ r ≡ withSlot t k x ⌝ }
+{
+    if k < 64 {
+        t.slots[k] = x;
+    }
+    t
+}

@@ -1,0 +1,114 @@
+// Document 01, Virtual links: the calls that alter the table, over a table by value.
+// A call takes the table and returns it with the reply; a refusal returns it as it was.
+use links::Interface;
+use links::LinkIndex;
+use links::PerhapsArea;
+use links::PerhapsLink;
+use links::Reply;
+use links::Settings;
+use links::Slot;
+use links::Table;
+use value_slots::Wanted;
+ghost use mathlib.Core.Path.{_≡_};
+ghost use Rattle.links.specs.Calls.{start, reply, enable, disable, setArea, setOwn};
+
+fn without_link(t: Table, number: u8) -> Reply
+    ensures { λ r. ⌜ r ≡ record { number = number; link = PerhapsLink.Nothing; table = t } ⌝ }
+{
+    Reply {
+        number: number,
+        link: PerhapsLink::Nothing,
+        table: t,
+    }
+}
+
+pub fn start(own: u64, max: usize, tvl: Interface, dgvl: Interface) -> Reply
+    ensures { λ r. ⌜ r ≡ start own max tvl dgvl ⌝ }
+{
+    let good = links::checks::mid_ok(own)
+        & (2 <= max)
+        & (max <= links::MOST)
+        & links::checks::interface_ok(tvl.kind, tvl.flag)
+        & links::checks::interface_ok(dgvl.kind, dgvl.flag);
+    if good {
+        return without_link(Table::fresh(own, max, tvl, dgvl), replies::DONE);
+    }
+    let plain = Interface { kind: 1, flag: 1 };
+    without_link(
+        Table::fresh(0, 2, plain, plain),
+        replies::VALUE_OUT_OF_RANGE,
+    )
+}
+
+pub fn enable(t: Table, s: Settings) -> Reply
+    ensures { λ r. ⌜ r ≡ reply t (enable s) ⌝ }
+{
+    let bad = links::checks::settings_refusal(s);
+    if bad != replies::DONE {
+        return without_link(t, bad);
+    }
+    if value_slots::has(t, Wanted::SameGround, s) {
+        return without_link(t, replies::AREA_IN_USE);
+    }
+    if value_slots::has(t, Wanted::Overlapping, s) {
+        return without_link(t, replies::PREFIX_OVERLAPS);
+    }
+    if !value_slots::has(t, Wanted::Unused, s) {
+        return without_link(t, replies::NO_INDEX_FREE);
+    }
+    let k = value_slots::first_unused(t);
+    let slot = Slot {
+        enabled: true,
+        settings: s,
+    };
+    Reply {
+        number: replies::DONE,
+        link: PerhapsLink::Link(LinkIndex(k + 2)),
+        table: value_slots::with_slot(t, k, slot),
+    }
+}
+
+pub fn disable(t: Table, index: LinkIndex) -> Reply
+    ensures { λ r. ⌜ r ≡ reply t (disable (index .0)) ⌝ }
+{
+    let i = index.0;
+    if i < LinkIndex::FIRST_STOP.0 {
+        return without_link(t, replies::FIXED_LINK);
+    }
+    let slot = value_slots::slot_at(t, index);
+    if !slot.enabled {
+        return without_link(t, replies::NO_SUCH_LINK);
+    }
+    let gone = links::blank_slot();
+    without_link(value_slots::with_slot(t, i - 2, gone), replies::DONE)
+}
+
+pub fn set_dgvl_area(t: Table, a: PerhapsArea) -> Reply
+    ensures { λ r. ⌜ r ≡ reply t (setArea a) ⌝ }
+{
+    if !links::checks::dynamic_area_good(a) {
+        return without_link(t, replies::AREA_NOT_GOOD);
+    }
+    let tvl = t.tvl;
+    let dgvl = t.dgvl;
+    let slots = t.slots;
+    let u = Table {
+        own: t.own,
+        max: t.max,
+        tvl: tvl,
+        dgvl: dgvl,
+        area: a,
+        slots: slots,
+    };
+    without_link(u, replies::DONE)
+}
+
+pub fn set_own_mid(mut t: Table, mid: u64) -> Reply
+    ensures { λ r. ⌜ r ≡ reply t (setOwn mid) ⌝ }
+{
+    if !links::checks::mid_ok(mid) {
+        return without_link(t, replies::VALUE_OUT_OF_RANGE);
+    }
+    t.own = mid;
+    without_link(t, replies::DONE)
+}
