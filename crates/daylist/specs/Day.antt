@@ -6,8 +6,8 @@ use mathlib.Core.List.{List}
 use lib.Dec.{eqb, ltb}
 use lib.ListN.{length, replicate}
 use Rattle.links.specs.declared.Table.{Table}
-use Rattle.links.specs.Slots.{free}
-use Rattle.links.specs.Calls.{plain, fresh}
+use Rattle.links.specs.Slots.{valueSlots}
+use Rattle.links.specs.Calls.{plainStart, fresh}
 use Rattle.replay.specs.declared.Step.{Step}
 use Rattle.replay.specs.Replay.{stepAt}
 
@@ -24,4 +24,4 @@ tableFrom (suc n) input started t at =
 
 -- a box that nobody has started; no day has more records than bytes
 unfoldable pub eveningTable : List ℕ → Table
-eveningTable input = tableFrom (length input) input false (fresh (replicate 64 free) 0 2 plain plain) 0
+eveningTable input = tableFrom (length input) input false (fresh valueSlots plainStart) 0

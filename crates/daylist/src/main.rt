@@ -1,13 +1,9 @@
 // Document 01, The day file: prints a header and one line per record of the day file on standard input, up to 65,536 bytes.
 use libc::STDIN_FILENO;
 use libc::STDOUT_FILENO;
-use links::Interface;
 use links::PerhapsLink;
 use links::Table;
 ghost use mathlib.Core.Path.{_≡_};
-ghost use lib.ListN.{replicate};
-ghost use Rattle.links.specs.Slots.{free};
-ghost use Rattle.links.specs.Calls.{plain, fresh};
 ghost use Rattle.daylist.specs.Day.{eveningTable};
 
 fn print(text: &[u8]) -> bool {
@@ -32,21 +28,13 @@ fn print_line(line: u64, number: u8, link: PerhapsLink, length: usize) {
     print(b"\n");
 }
 
-// A box that nobody has started: no call reads its table.
-fn unstarted() -> Table
-    ensures { λ r. ⌜ r ≡ fresh (replicate 64 free) 0 2 plain plain ⌝ }
-{
-    let plain = Interface { kind: 1, flag: 1 };
-    Table::fresh(0, 2, plain, plain)
-}
-
 // Prints a line for each record, and gives the table in the evening: no contract can say what is printed, but a loop that
 // forgets what a record did to the box gives another table.
 fn list(input: &[u8]) -> Table
     ensures { λ r. ⌜ r ≡ eveningTable (now (input .entry)) ⌝ }
 {
     let mut started = false;
-    let mut t = unstarted();
+    let mut t = Table::plain();
     let mut at: usize = 0;
     let mut line: u64 = 0;
     while at < input.len() {

@@ -9,11 +9,13 @@ use Rattle.octets.specs.Digits.{digits}
 use Rattle.replies.specs.Rules.{refusal}
 use Rattle.area.specs.declared.Area.{Area}
 use Rattle.area.specs.Area.{goodArea}
+use Rattle.prefix.specs.Prefix.{noPrefix}
 use Rattle.links.specs.declared.PerhapsLink.{PerhapsLink}
 use Rattle.links.specs.declared.PerhapsLink.the-variants.{Link, Nothing}
+use Rattle.links.specs.declared.Reply.{Reply}
 use Rattle.links.specs.declared.Settings.{Settings}
 use Rattle.links.specs.declared.Table.{Table}
-use Rattle.links.specs.Calls.{TableCall, enable, disable, reply, start, plain}
+use Rattle.links.specs.Calls.{TableCall, enable, disable, reply, startByValue, plain}
 use Rattle.ipv6.specs.declared.PerhapsMid.{PerhapsMid}
 use Rattle.ipv6.specs.declared.PerhapsMid.the-variants.{Mid, Nothing as NoMid}
 use Rattle.ipv6.specs.Packet.{packetRules}
@@ -58,9 +60,9 @@ packet n =
     ++ 1 ∷ 0xff ∷ 2 ∷ replicate 13 0
     ++ 1 ∷ replicate (n - 40) 0)
 
--- the fresh table of a maximum, with fixed links of kind 1 and flag 1
-abbrev pub fresh : ℕ → Table
-fresh max = start 1 max plain plain .table
+-- a start with a maximum, and fixed links of kind 1 and flag 1
+abbrev pub startWith : ℕ → Reply
+startWith max = startByValue (record { own = 1; max = max; tvl = plain; dgvl = plain })
 
 abbrev pub indexOrZero : PerhapsLink → ℕ
 indexOrZero (Link i) = i .0
@@ -75,20 +77,19 @@ given t (c ∷ cs) = indexOrZero (reply t c .link) ∷ given (reply t c .table) 
 abbrev pub stop : ℕ → Settings
 stop n = record {
   area = record { shape = 0; latitude = pos 0; longitude = pos 0; a = n; b = 0; angle = 0 };
-  prefix = record { len = 0; bytes = replicate 16 0 };
-  kind = 1;
-  flag = 1;
+  prefix = noPrefix;
+  interface = plain;
 }
 
 unfoldable pub rows : List Row
 rows =
     -- maximum 1 refused, 2 good, 65 good, 66 refused
-    (start 1 1 plain plain .number is 1)
-    ∷ (start 1 2 plain plain .number is 0)
-    ∷ (start 1 65 plain plain .number is 0)
-    ∷ (start 1 66 plain plain .number is 1)
+    (startWith 1 .number is 1)
+    ∷ (startWith 2 .number is 0)
+    ∷ (startWith 65 .number is 0)
+    ∷ (startWith 66 .number is 1)
     -- links 2, 3, 4 enabled, 3 disabled: the next enabled gets 3
-    ∷ (given (fresh 65) (enable (stop 1) ∷ enable (stop 2) ∷ enable (stop 3) ∷ disable 3 ∷ enable (stop 4) ∷ [])
+    ∷ (given (startWith 65 .table) (enable (stop 1) ∷ enable (stop 2) ∷ enable (stop 3) ∷ disable 3 ∷ enable (stop 4) ∷ [])
     are (2 ∷ 3 ∷ 4 ∷ 0 ∷ 3 ∷ []))
     -- own MID 02:00:00:00:00:01 gives fe80::ff:fe00:1, and back
     ∷ (linkLocal 0x020000000001 are (0xfe ∷ 0x80 ∷ replicate 9 0 ++ 0xff ∷ 0xfe ∷ 0 ∷ 0 ∷ 1 ∷ []))

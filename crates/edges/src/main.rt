@@ -5,9 +5,11 @@ use libc::STDOUT_FILENO;
 use links::Interface;
 use links::PerhapsLink;
 use links::Settings;
+use links::StartValues;
 use links::Table;
 use prefix::Prefix;
 use traffic::Destination;
+use traffic::IndicationHead;
 
 fn print(text: &[u8]) {
     io::write_all(STDOUT_FILENO, text);
@@ -24,6 +26,13 @@ fn rectangle(latitude: i32, angle: u16) -> Area {
     }
 }
 
+fn plain() -> Interface {
+    Interface {
+        kind: links::ETHERNET,
+        flag: 1,
+    }
+}
+
 fn settings(area: Area, len: u8, first: u8) -> Settings {
     let mut bytes = [0u8; 16];
     bytes[0] = first;
@@ -33,15 +42,18 @@ fn settings(area: Area, len: u8, first: u8) -> Settings {
             len: len,
             bytes: bytes,
         },
-        kind: 1,
-        flag: 1,
+        interface: plain(),
     }
 }
 
 // Maximum 2, and its only stop link enabled.
 fn with_one_stop() -> Table {
-    let plain = Interface { kind: 1, flag: 1 };
-    let start = value_table::start(1, 2, plain, plain);
+    let start = value_table::start(StartValues {
+        own: 1,
+        max: 2,
+        tvl: plain(),
+        dgvl: plain(),
+    });
     let fresh = start.table;
     let stop = settings(rectangle(0, 90), 0, 0);
     let reply = value_table::enable(fresh, stop);
@@ -82,11 +94,24 @@ fn print_link(link: PerhapsLink, number: u8) {
     }
 }
 
+// An indication from MID 2 with class 0.
+fn from_two(transport: u8, destination: Destination) -> IndicationHead {
+    IndicationHead {
+        transport: transport,
+        source: 2,
+        class: 0,
+        destination: destination,
+    }
+}
+
 fn broadcast_beside_the_stop() {
     let p = packet();
-    let d = Destination::Within(rectangle(0, 91));
+    let h = from_two(
+        traffic::GEO_BROADCAST,
+        Destination::Within(rectangle(0, 91)),
+    );
     let mut buffer = [0u8; 1294];
-    let reply = arrives::indication(with_one_stop(), 3, 2, 0, d, &p, &mut buffer);
+    let reply = value_traffic::indication(with_one_stop(), h, &p, &mut buffer);
     print(b"broadcast to a rectangle with the angle one off: expected link 1 got ");
     let link = reply.link;
     print_link(link, reply.number);
@@ -97,15 +122,8 @@ fn buffer_of_packet_and_13() {
     let p = packet();
     let before = [0x5au8; 53];
     let mut buffer = [0x5au8; 53];
-    let reply = arrives::indication(
-        with_one_stop(),
-        4,
-        2,
-        0,
-        Destination::Nothing,
-        &p,
-        &mut buffer,
-    );
+    let h = from_two(traffic::TSB, Destination::Nothing);
+    let reply = value_traffic::indication(with_one_stop(), h, &p, &mut buffer);
     print(b"buffer of packet + 13: expected 13 unchanged got ");
     io::print_decimal(STDOUT_FILENO, reply.number as u64);
     if octets::equal(&before, &buffer) {

@@ -4,6 +4,9 @@ ghost use Rattle.frames.specs.Frame.{frame, put, putLength};
 
 const IPV6: [u8; 2] = [0x86, 0xdd];
 
+// What a frame has before its packet: two MACs and the two bytes above.
+pub const HEADER: usize = 14;
+
 // Writes nothing where the buffer has no room for the whole packet, and answers how many bytes it wrote.
 pub fn write_packet(out: &mut [u8], packet: &[u8]) -> usize
     ensures { λ r. ⌜ (r ≡ putLength (now (packet .entry)) (now (out .entry))) × (now (out .exit) ≡ put (now (packet .entry)) (now (out .entry))) ⌝ }
@@ -18,7 +21,7 @@ pub fn write_packet(out: &mut [u8], packet: &[u8]) -> usize
 pub fn write_frame(out: &mut [u8], to: u64, from: u64, packet: &[u8]) -> usize
     ensures { λ r. ⌜ (r ≡ putLength (frame to from (now (packet .entry))) (now (out .entry))) × (now (out .exit) ≡ put (frame to from (now (packet .entry))) (now (out .entry))) ⌝ }
 {
-    if out.len() < packet.len() + 14 {
+    if out.len() < packet.len() + HEADER {
         return 0;
     }
     let to_mac = octets::mac_of(to);
@@ -27,5 +30,5 @@ pub fn write_frame(out: &mut [u8], to: u64, from: u64, packet: &[u8]) -> usize
     bytes::copy(&to_mac, out);
     bytes::copy(&from_mac, &mut out[6..]);
     bytes::copy(&kind, &mut out[12..]);
-    bytes::copy(packet, &mut out[14..]) + 14
+    bytes::copy(packet, &mut out[HEADER..]) + HEADER
 }

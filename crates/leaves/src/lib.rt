@@ -1,15 +1,18 @@
-// Document 01, What leaves: a request is refused, or sent down with its transport and destination; and the interface address
-// of a link. The table does not change.
+// Document 01, What leaves: the half of a request, and of the question for an interface address, that knows no layout of the
+// table. A request is refused, or sent down with its transport and destination, on the link that was found for its index.
 use ipv6::PerhapsMid;
 use links::Interface;
 use links::LinkIndex;
+use links::Named;
 use links::PerhapsArea;
-use links::Table;
 use traffic::Destination;
 use traffic::InterfaceAddress;
+use traffic::RequestHead;
 use traffic::Sending;
 ghost use mathlib.Core.Path.{_≡_};
-ghost use Rattle.traffic.specs.Leaves.{request, neighbourOk, neighbourOf, isUnset, within, send, interface};
+ghost use mathlib.Core.List.{[]};
+ghost use Rattle.replies.specs.Rules.{refusal};
+ghost use Rattle.traffic.specs.Leaves.{request, neighbourOk, neighbourOf, isUnset, within, requestValues, notSent, sendOn, interfaceOn};
 
 fn neighbour_ok(neighbour: PerhapsMid) -> bool
     ensures { λ r. ⌜ r ≡ neighbourOk neighbour ⌝ }
@@ -24,7 +27,7 @@ fn neighbour_ok(neighbour: PerhapsMid) -> bool
 fn neighbour_of(f: Interface, given: PerhapsMid, packet: &[u8]) -> PerhapsMid
     ensures { λ r. ⌜ r ≡ neighbourOf f given (now (packet .entry)) ⌝ }
 {
-    if (f.kind == 3) | (f.flag == 1) {
+    if (f.kind == links::POINT_TO_POINT) | (f.flag == 1) {
         return ipv6::mid_of(ipv6::destination_of(packet));
     }
     given
@@ -48,8 +51,20 @@ fn within_area(a: PerhapsArea) -> Destination
     }
 }
 
-fn refused(number: u8) -> Sending
-    ensures { λ r. ⌜ r ≡ record { number = number; transport = 0; destination = Destination.Nothing; class = 0; length = 0 } ⌝ }
+// The number by which its values refuse a request: 1, or 0.
+pub fn values_refusal(h: RequestHead) -> u8
+    ensures { λ r. ⌜ r ≡ refusal (requestValues (request h [])) ⌝ }
+{
+    let neighbour = h.neighbour;
+    if !neighbour_ok(neighbour) {
+        return replies::VALUE_OUT_OF_RANGE;
+    }
+    replies::DONE
+}
+
+// The reply of a request that is refused.
+pub fn refused(number: u8) -> Sending
+    ensures { λ r. ⌜ r ≡ notSent number ⌝ }
 {
     Sending {
         number: number,
@@ -72,19 +87,10 @@ fn sent(transport: u8, destination: Destination, class: u8, length: usize) -> Se
     }
 }
 
-pub fn request(
-    t: Table,
-    index: LinkIndex,
-    class: u8,
-    neighbour: PerhapsMid,
-    packet: &[u8],
-) -> Sending
-    ensures { λ r. ⌜ r ≡ send t (request (index .0) class neighbour (now (packet .entry))) ⌝ }
+// A request whose values are good, on the link that its index names.
+pub fn send_on(link: Named, h: RequestHead, packet: &[u8]) -> Sending
+    ensures { λ r. ⌜ r ≡ sendOn link (request h (now (packet .entry))) ⌝ }
 {
-    if !neighbour_ok(neighbour) {
-        return refused(replies::VALUE_OUT_OF_RANGE);
-    }
-    let link = value_slots::index::link_at(t, index);
     if !link.enabled {
         return refused(replies::NO_SUCH_LINK);
     }
@@ -92,39 +98,46 @@ pub fn request(
     if bad != replies::DONE {
         return refused(bad);
     }
+    let index = h.index;
     if ipv6::is_multicast(ipv6::destination_of(packet)) {
-        let area = t.area;
-        if (index.0 == 1) & is_unset(area) {
+        let area = link.area;
+        if (index.0 == LinkIndex::DGVL.0) & is_unset(area) {
             return refused(replies::AREA_MISSING);
         }
-        if index.0 == 0 {
-            return sent(4, Destination::Nothing, class, packet.len());
+        if index.0 == LinkIndex::TVL.0 {
+            return sent(traffic::TSB, Destination::Nothing, h.class, packet.len());
         }
-        let there = link.area;
-        let whole = within_area(there);
-        return sent(3, whole, class, packet.len());
+        let whole = within_area(area);
+        return sent(traffic::GEO_BROADCAST, whole, h.class, packet.len());
     }
     let f = link.interface;
+    let neighbour = h.neighbour;
     match neighbour_of(f, neighbour, packet) {
-        PerhapsMid::Mid(m) => sent(1, Destination::Mid(m), class, packet.len()),
+        PerhapsMid::Mid(m) => sent(
+            traffic::GEO_UNICAST,
+            Destination::Mid(m),
+            h.class,
+            packet.len(),
+        ),
         PerhapsMid::Nothing => refused(replies::NEIGHBOUR_UNKNOWN),
     }
 }
 
-pub fn interface_address(t: Table, index: LinkIndex) -> InterfaceAddress
-    ensures { λ r. ⌜ r ≡ interface t (index .0) ⌝ }
+// The interface address of a link that is enabled or not, in a box with this own MID.
+pub fn address_on(enabled: bool, own: u64) -> InterfaceAddress
+    ensures { λ r. ⌜ r ≡ interfaceOn enabled own ⌝ }
 {
-    if !value_slots::index::is_enabled(t, index) {
+    if !enabled {
         return InterfaceAddress {
             number: replies::NO_SUCH_LINK,
             mid: 0,
             address: [0; 16],
         };
     }
-    let address = ipv6::link_local_of(t.own);
+    let address = ipv6::link_local_of(own);
     InterfaceAddress {
         number: replies::DONE,
-        mid: t.own,
+        mid: own,
         address: address,
     }
 }

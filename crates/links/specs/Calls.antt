@@ -3,7 +3,7 @@ use Prim.Native.Nat.{ℕ, zero, suc, _+_, _-_}
 use mathlib.Core.Bool.{Bool, true, not, _&&_}
 use mathlib.Core.List.{List, [], _∷_, _++_}
 use lib.Dec.{leb, ltb}
-use lib.ListN.{set, replicate}
+use lib.ListN.{set}
 use Rattle.replies.specs.Rules.{Rule, _if_, _then_, refusal}
 use Rattle.area.specs.Area.{goodArea}
 use Rattle.links.specs.declared.PerhapsArea.{PerhapsArea}
@@ -14,9 +14,10 @@ use Rattle.links.specs.declared.PerhapsLink.the-variants.{Link, Nothing}
 use Rattle.links.specs.declared.Reply.{Reply}
 use Rattle.links.specs.declared.Settings.{Settings}
 use Rattle.links.specs.declared.Slot.{Slot}
+use Rattle.links.specs.declared.StartValues.{StartValues}
 use Rattle.links.specs.declared.Table.{Table}
 use Rattle.links.specs.Settings.{midOk, interfaceOk, settingsRules, sameGround, overlaps}
-use Rattle.links.specs.Slots.{free, inUse, counted, slotAt, any, place, unused, with}
+use Rattle.links.specs.Slots.{free, valueSlots, inUse, counted, slotAt, any, place, unused, with}
 
 pub data TableCall : Type 0 where
   enable : Settings → TableCall
@@ -101,17 +102,18 @@ answer (suc n) t c = record { number = suc n; link = Nothing; table = t }
 unfoldable pub reply : Table → TableCall → Reply
 reply t c = answer (refusal (rules (counted t) c)) t c
 
--- start: the least maximum is 2, and `most` the largest (65 for a table by value)
-abbrev pub startOk : ℕ → ℕ → ℕ → Interface → Interface → Bool
-startOk most own max tvl dgvl =
-    midOk own
-    && leb 2 max
-    && leb max most
-    && interfaceOk (tvl .kind) (tvl .flag)
-    && interfaceOk (dgvl .kind) (dgvl .flag)
+-- start: the least maximum is 2, and `most` the largest
+abbrev pub startOk : ℕ → StartValues → Bool
+startOk most v =
+    midOk (v .own)
+    && leb 2 (v .max)
+    && leb (v .max) most
+    && interfaceOk (v .tvl)
+    && interfaceOk (v .dgvl)
 
-unfoldable pub startRules : ℕ → ℕ → ℕ → Interface → Interface → List Rule
-startRules most own max tvl dgvl = 1 if not (startOk most own max tvl dgvl) then []
+-- its values alone refuse a start
+unfoldable pub startValues : ℕ → StartValues → List Rule
+startValues most v = 1 if not (startOk most v) then []
 
 -- the first n slots of a memory are cleared, or as many as it has
 unfoldable pub cleared : ℕ → List Slot → List Slot
@@ -120,24 +122,31 @@ cleared (suc n) [] = []
 cleared (suc n) (x ∷ l) = free ∷ cleared n l
 
 -- the fresh table in some memory: the slots that count are cleared
-unfoldable pub fresh : List Slot → ℕ → ℕ → Interface → Interface → Table
-fresh memory own max tvl dgvl = record {
-  own = own;
-  max = max;
-  tvl = tvl;
-  dgvl = dgvl;
+unfoldable pub fresh : List Slot → StartValues → Table
+fresh memory v = record {
+  own = v .own;
+  max = v .max;
+  tvl = v .tvl;
+  dgvl = v .dgvl;
   area = Unset;
-  slots = cleared (max - 1) memory;
+  slots = cleared (v .max - 1) memory;
 }
 
 abbrev pub plain : Interface
 plain = record { kind = 1; flag = 1 }
 
--- a refused start returns its number and the table for own MID 0, maximum 2, fixed links of kind 1 and flag 1
-abbrev pub begin : ℕ → List Slot → ℕ → ℕ → Interface → Interface → Reply
-begin zero memory own max tvl dgvl = record { number = 0; link = Nothing; table = fresh memory own max tvl dgvl }
-begin (suc n) memory own max tvl dgvl = record { number = suc n; link = Nothing; table = fresh memory 0 2 plain plain }
+abbrev pub plainStart : StartValues
+plainStart = record { own = 0; max = 2; tvl = plain; dgvl = plain }
 
--- start by value: 64 blank slots
-unfoldable pub start : ℕ → ℕ → Interface → Interface → Reply
-start own max tvl dgvl = begin (refusal (startRules 65 own max tvl dgvl)) (replicate 64 free) own max tvl dgvl
+-- a refused start returns its number and the table for own MID 0, maximum 2, fixed links of kind 1 and flag 1
+abbrev pub begin : ℕ → List Slot → StartValues → Reply
+begin zero memory v = record { number = 0; link = Nothing; table = fresh memory v }
+begin (suc n) memory v = record { number = suc n; link = Nothing; table = fresh memory plainStart }
+
+-- start in some memory, with maxima up to `most`
+unfoldable pub start : ℕ → List Slot → StartValues → Reply
+start most memory v = begin (refusal (startValues most v)) memory v
+
+-- by value the largest maximum is 65
+abbrev pub startByValue : StartValues → Reply
+startByValue v = start 65 valueSlots v

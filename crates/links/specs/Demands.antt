@@ -4,16 +4,16 @@ use mathlib.Core.Path.{_≡_}
 use mathlib.Core.Logic.{_≢_}
 use mathlib.Core.Bool.{true}
 use mathlib.Core.List.{List}
-use lib.ListN.{getD, replicate}
+use lib.ListN.{getD}
 use Rattle.replies.specs.Rules.{Exact}
 use Rattle.links.specs.declared.PerhapsArea.{PerhapsArea}
-use Rattle.links.specs.declared.Interface.{Interface}
 use Rattle.links.specs.declared.PerhapsLink.the-variants.{Nothing}
 use Rattle.links.specs.declared.Settings.{Settings}
 use Rattle.links.specs.declared.Slot.{Slot}
+use Rattle.links.specs.declared.StartValues.{StartValues}
 use Rattle.links.specs.declared.Table.{Table}
 use Rattle.links.specs.Slots.{free, inUse, counted}
-use Rattle.links.specs.Calls.{TableCall, enable, disable, setArea, setOwn, rules, reply, linkOf, withArea, withOwn, startRules, fresh, plain, start}
+use Rattle.links.specs.Calls.{TableCall, enable, disable, setArea, setOwn, rules, reply, linkOf, withArea, withOwn, startValues, fresh, plainStart, start}
 use Rattle.links.specs.Reached.{Reached}
 
 -- Demand 1: bad input gets its number in document 01's order, and a refusal changes nothing
@@ -22,12 +22,12 @@ pub record Refuses (t : Table) (c : TableCall) : Type 0 where
   pub unchanged : reply t c .number ≢ 0 → (reply t c .table ≡ t) × (reply t c .link ≡ Nothing)
 
 -- of a start: a refused one gives the table that document 01 names
-pub record RefusesStart (own max : ℕ) (tvl dgvl : Interface) : Type 0 where
-  pub exact : Exact (startRules 65 own max tvl dgvl) (start own max tvl dgvl .number)
-  pub plainTable : start own max tvl dgvl .number ≢ 0 → start own max tvl dgvl .table ≡ fresh (replicate 64 free) 0 2 plain plain
+pub record RefusesStart (most : ℕ) (memory : List Slot) (v : StartValues) : Type 0 where
+  pub exact : Exact (startValues most v) (start most memory v .number)
+  pub plainTable : start most memory v .number ≢ 0 → start most memory v .table ≡ fresh memory plainStart
 
 unfoldable pub TableDemand1 : Type 0
-TableDemand1 = ((t : Table) (c : TableCall) → Refuses t c) × ((own max : ℕ) (tvl dgvl : Interface) → RefusesStart own max tvl dgvl)
+TableDemand1 = ((t : Table) (c : TableCall) → Refuses t c) × ((most : ℕ) (memory : List Slot) (v : StartValues) → RefusesStart most memory v)
 
 -- Demand 2: the table that a call leaves is the definition's. What a reader would ask of the definition:
 

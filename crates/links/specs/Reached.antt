@@ -3,26 +3,24 @@ use Prim.Native.Nat.{ℕ, _-_, _^_, _≤_, _<_}
 use mathlib.Core.Path.{_≡_}
 use mathlib.Core.Bool.{Bool, true, false}
 use mathlib.Core.List.{List}
-use lib.ListN.{length, getD, drop, replicate}
+use lib.ListN.{length, getD, drop}
 use Rattle.replies.specs.Rules.{refusal}
-use Rattle.links.specs.declared.Interface.{Interface}
 use Rattle.links.specs.declared.Settings.{Settings}
 use Rattle.links.specs.declared.Slot.{Slot}
+use Rattle.links.specs.declared.StartValues.{StartValues}
 use Rattle.links.specs.declared.Table.{Table}
 use Rattle.links.specs.Settings.{interfaceOk, settingsRules, sameGround, overlaps}
-use Rattle.links.specs.Slots.{Has, free, counted, enabledCount}
-use Rattle.links.specs.Calls.{startRules, fresh, goodDynamic, TableCall, reply}
+use Rattle.links.specs.Slots.{Has, free, valueSlots, counted, enabledCount}
+use Rattle.links.specs.Calls.{startValues, fresh, goodDynamic, TableCall, reply}
 
 -- in a memory of slots, with maxima up to `most`: a start that is not refused, then calls, refused or not
 pub data Reached (most : ℕ) (memory : List Slot) : Table → Type 0 where
-  started : (own max : ℕ) (tvl dgvl : Interface) →
-      refusal (startRules most own max tvl dgvl) ≡ 0 → max - 1 ≤ length memory →
-      Reached most memory (fresh memory own max tvl dgvl)
+  started : (v : StartValues) → refusal (startValues most v) ≡ 0 → v .max - 1 ≤ length memory → Reached most memory (fresh memory v)
   called : {t : Table} → Reached most memory t → (c : TableCall) → Reached most memory (reply t c .table)
 
--- a table by value: 64 blank slots, maxima up to 65
+-- a table by value
 abbrev pub ByValue : Table → Type 0
-ByValue t = Reached 65 (replicate 64 free) t
+ByValue t = Reached 65 valueSlots t
 
 -- two enabled slots that meet, in one sense or another, are one
 abbrev pub Apart : (Settings → Settings → Bool) → List Slot → Type 0
@@ -32,8 +30,8 @@ pub record Sound (most : ℕ) (memory : List Slot) (t : Table) : Type 0 where
   pub own : t .own < 2 ^ 48
   pub least : 2 ≤ t .max
   pub largest : t .max ≤ most
-  pub tvl : interfaceOk (t .tvl .kind) (t .tvl .flag) ≡ true
-  pub dgvl : interfaceOk (t .dgvl .kind) (t .dgvl .flag) ≡ true
+  pub tvl : interfaceOk (t .tvl) ≡ true
+  pub dgvl : interfaceOk (t .dgvl) ≡ true
   pub area : goodDynamic (t .area) ≡ true
   -- enabled links are good, with pairwise different areas and no overlapping prefixes
   pub good : (k : ℕ) (s : Settings) → Has (counted t) k s → refusal (settingsRules s) ≡ 0

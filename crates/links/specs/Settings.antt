@@ -2,11 +2,12 @@
 use Prim.Native.Nat.{ℕ, _^_}
 use mathlib.Core.Path.{_≡_}
 use mathlib.Core.Bool.{Bool, true, not, _&&_}
-use mathlib.Core.List.{List, []}
+use mathlib.Core.List.{List, [], _++_}
 use lib.Dec.{leb, ltb}
 use Rattle.replies.specs.Rules.{Rule, _if_, _then_}
 use Rattle.area.specs.Area.{goodArea, sameArea}
 use Rattle.prefix.specs.Prefix.{holds, overlap, goodPrefix}
+use Rattle.links.specs.declared.Interface.{Interface}
 use Rattle.links.specs.declared.Settings.{Settings}
 
 -- MID: 48 bits
@@ -14,16 +15,21 @@ abbrev pub midOk : ℕ → Bool
 midOk m = ltb m (2 ^ 48)
 
 -- kinds: 1 Ethernet LAN, 2 NBMA, 3 point-to-point; flag: 0 or 1
-unfoldable pub interfaceOk : ℕ → ℕ → Bool
-interfaceOk kind flag = leb 1 kind && leb kind 3 && leb flag 1
+unfoldable pub interfaceOk : Interface → Bool
+interfaceOk f = leb 1 (f .kind) && leb (f .kind) 3 && leb (f .flag) 1
 
--- the refusals of an enable that the settings alone decide
-unfoldable pub settingsRules : Settings → List Rule
-settingsRules s =
-    1 if not (interfaceOk (s .kind) (s .flag))
-    then 2 if not (goodArea (s .area))
+-- the refusals of an enable that the settings alone decide: their values, then area and prefix
+unfoldable pub settingsValues : Settings → List Rule
+settingsValues s = 1 if not (interfaceOk (s .interface)) then []
+
+unfoldable pub groundRules : Settings → List Rule
+groundRules s =
+    2 if not (goodArea (s .area))
     then 3 if not (goodPrefix (s .prefix))
     then []
+
+unfoldable pub settingsRules : Settings → List Rule
+settingsRules s = settingsValues s ++ groundRules s
 
 unfoldable pub sameGround : Settings → Settings → Bool
 sameGround r s = sameArea (r .area) (s .area)
@@ -39,5 +45,4 @@ reaches s address = holds (s .prefix) address
 pub record Same (r s : Settings) : Type 0 where
   pub area : sameArea (r .area) (s .area) ≡ true
   pub prefix : r .prefix ≡ s .prefix
-  pub kind : r .kind ≡ s .kind
-  pub flag : r .flag ≡ s .flag
+  pub interface : r .interface ≡ s .interface

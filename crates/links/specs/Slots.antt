@@ -6,6 +6,7 @@ use mathlib.Core.List.{List, [], _∷_}
 use lib.Dec.{ltb}
 use lib.IntN.{pos}
 use lib.ListN.{take, getD, replicate}
+use Rattle.prefix.specs.Prefix.{noPrefix}
 use Rattle.links.specs.declared.Settings.{Settings}
 use Rattle.links.specs.declared.Slot.{Slot}
 use Rattle.links.specs.declared.Table.{Table}
@@ -13,14 +14,17 @@ use Rattle.links.specs.declared.Table.{Table}
 abbrev pub blank : Settings
 blank = record {
   area = record { shape = 0; latitude = pos 0; longitude = pos 0; a = 0; b = 0; angle = 0 };
-  prefix = record { len = 0; bytes = replicate 16 0 };
-  kind = 0;
-  flag = 0;
+  prefix = noPrefix;
+  interface = record { kind = 0; flag = 0 };
 }
 
 -- a disabled slot is blank
 abbrev pub free : Slot
 free = record { enabled = false; settings = blank }
+
+-- the memory of a table by value
+abbrev pub valueSlots : List Slot
+valueSlots = replicate 64 free
 
 abbrev pub inUse : Settings → Slot
 inUse s = record { enabled = true; settings = s }

@@ -1,10 +1,13 @@
-// Which values of the settings are good: what refuses a call before the table is looked at.
+// Which values of the settings are good: what refuses a call before the table is looked at. A call's values (1) are asked apart
+// from the rest, because a layout of the table may have a refusal of its own between the two.
+use crate::Interface;
 use crate::PerhapsArea;
 use crate::Settings;
+use crate::StartValues;
 ghost use mathlib.Core.Path.{_≡_};
 ghost use Rattle.replies.specs.Rules.{refusal};
-ghost use Rattle.links.specs.Settings.{midOk, interfaceOk, settingsRules};
-ghost use Rattle.links.specs.Calls.{goodDynamic};
+ghost use Rattle.links.specs.Settings.{midOk, interfaceOk, settingsValues, groundRules, settingsRules};
+ghost use Rattle.links.specs.Calls.{goodDynamic, startValues};
 
 pub fn mid_ok(mid: u64) -> bool
     ensures { λ r. ⌜ r ≡ midOk mid ⌝ }
@@ -12,10 +15,10 @@ pub fn mid_ok(mid: u64) -> bool
     mid < 0x1_0000_0000_0000
 }
 
-pub fn interface_ok(kind: u8, flag: u8) -> bool
-    ensures { λ r. ⌜ r ≡ interfaceOk kind flag ⌝ }
+pub fn interface_ok(f: Interface) -> bool
+    ensures { λ r. ⌜ r ≡ interfaceOk f ⌝ }
 {
-    (1 <= kind) & (kind <= 3) & (flag <= 1)
+    (crate::ETHERNET <= f.kind) & (f.kind <= crate::POINT_TO_POINT) & (f.flag <= 1)
 }
 
 pub fn dynamic_area_good(a: PerhapsArea) -> bool
@@ -27,13 +30,36 @@ pub fn dynamic_area_good(a: PerhapsArea) -> bool
     }
 }
 
-// The number by which the settings alone refuse an enable: 1, 2, 3 in this order, or 0.
-pub fn settings_refusal(s: Settings) -> u8
-    ensures { λ r. ⌜ r ≡ refusal (settingsRules s) ⌝ }
+// The number by which its values refuse a start, where `most` is the largest maximum.
+pub fn start_refusal(most: usize, v: StartValues) -> u8
+    ensures { λ r. ⌜ r ≡ refusal (startValues most v) ⌝ }
 {
-    if !interface_ok(s.kind, s.flag) {
+    let good = mid_ok(v.own)
+        & (2 <= v.max)
+        & (v.max <= most)
+        & interface_ok(v.tvl)
+        & interface_ok(v.dgvl);
+    if !good {
         return replies::VALUE_OUT_OF_RANGE;
     }
+    replies::DONE
+}
+
+// The number by which its values refuse an enable: 1, or 0.
+pub fn values_refusal(s: Settings) -> u8
+    ensures { λ r. ⌜ r ≡ refusal (settingsValues s) ⌝ }
+{
+    let f = s.interface;
+    if !interface_ok(f) {
+        return replies::VALUE_OUT_OF_RANGE;
+    }
+    replies::DONE
+}
+
+// The number by which area and prefix refuse an enable: 2, 3 in this order, or 0.
+pub fn ground_refusal(s: Settings) -> u8
+    ensures { λ r. ⌜ r ≡ refusal (groundRules s) ⌝ }
+{
     if !area::good(s.area) {
         return replies::AREA_NOT_GOOD;
     }
@@ -41,4 +67,15 @@ pub fn settings_refusal(s: Settings) -> u8
         return replies::PREFIX_NOT_GOOD;
     }
     replies::DONE
+}
+
+// The number by which the settings alone refuse an enable: 1, 2, 3 in this order, or 0.
+pub fn settings_refusal(s: Settings) -> u8
+    ensures { λ r. ⌜ r ≡ refusal (settingsRules s) ⌝ }
+{
+    let bad = values_refusal(s);
+    if bad != replies::DONE {
+        return bad;
+    }
+    ground_refusal(s)
 }

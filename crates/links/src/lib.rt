@@ -6,9 +6,8 @@ pub mod checks;
 use area::Area;
 use prefix::Prefix;
 ghost use mathlib.Core.Path.{_≡_};
-ghost use lib.ListN.{replicate};
-ghost use Rattle.links.specs.Slots.{free};
-ghost use Rattle.links.specs.Calls.{fresh};
+ghost use Rattle.links.specs.Slots.{free, valueSlots};
+ghost use Rattle.links.specs.Calls.{fresh, plainStart};
 
 // The index of a virtual link. The two fixed links bear index 0 and 1 always.
 pub struct LinkIndex(pub usize);
@@ -21,10 +20,19 @@ impl LinkIndex {
     pub const FIRST_STOP: LinkIndex = LinkIndex(2);
 }
 
-// The largest index maximum of a table by value.
+// The kinds of an interface.
+pub const ETHERNET: u8 = 1;
+
+pub const NBMA: u8 = 2;
+
+pub const POINT_TO_POINT: u8 = 3;
+
+// How many slots a table by value has, and so its largest index maximum.
+pub const SLOTS: usize = 64;
+
 pub const MOST: usize = 65;
 
-// What a fixed link is given at the start.
+// A link's interface: its kind and its resolve flag.
 pub struct Interface {
     pub kind: u8,
     pub flag: u8,
@@ -34,8 +42,7 @@ pub struct Interface {
 pub struct Settings {
     pub area: Area,
     pub prefix: Prefix,
-    pub kind: u8,
-    pub flag: u8,
+    pub interface: Interface,
 }
 
 // The record of one stop index: slot k is that of index k + 2.
@@ -44,10 +51,18 @@ pub struct Slot {
     pub settings: Settings,
 }
 
-// The area of the dynamic link.
+// The area of a link, where it has one: a stop link has, the topological link has none, the dynamic link's may be set and cleared.
 pub enum PerhapsArea {
     Set(Area),
     Unset,
+}
+
+// What a start is given.
+pub struct StartValues {
+    pub own: u64,
+    pub max: usize,
+    pub tvl: Interface,
+    pub dgvl: Interface,
 }
 
 pub struct Table {
@@ -56,12 +71,25 @@ pub struct Table {
     pub tvl: Interface,
     pub dgvl: Interface,
     pub area: PerhapsArea,
-    pub slots: [Slot; 64],
+    pub slots: [Slot; SLOTS],
 }
 
 pub enum PerhapsLink {
     Link(LinkIndex),
     Nothing,
+}
+
+// The link that was chosen for a packet: all that a delivery asks of it, whatever the layout of the table.
+pub struct Chosen {
+    pub index: LinkIndex,
+    pub kind: u8,
+}
+
+// The link that an index names: all that a request asks of it, whatever the layout of the table.
+pub struct Named {
+    pub enabled: bool,
+    pub interface: Interface,
+    pub area: PerhapsArea,
 }
 
 // What a disabled slot holds.
@@ -76,15 +104,11 @@ pub fn blank_slot() -> Slot
         b: 0,
         angle: 0,
     };
-    let prefix = Prefix {
-        len: 0,
-        bytes: [0; 16],
-    };
+    let prefix = prefix::none();
     let settings = Settings {
         area: area,
         prefix: prefix,
-        kind: 0,
-        flag: 0,
+        interface: Interface { kind: 0, flag: 0 },
     };
     Slot {
         enabled: false,
@@ -94,17 +118,37 @@ pub fn blank_slot() -> Slot
 
 impl Table {
     // The table with no stop link enabled. A maximum above 65 finds no more than 64 slots.
-    pub fn fresh(own: u64, max: usize, tvl: Interface, dgvl: Interface) -> Self
-        ensures { λ r. ⌜ r ≡ fresh (replicate 64 free) own max tvl dgvl ⌝ }
+    pub fn fresh(v: StartValues) -> Self
+        ensures { λ r. ⌜ r ≡ fresh valueSlots v ⌝ }
     {
+        let tvl = v.tvl;
+        let dgvl = v.dgvl;
         Table {
-            own: own,
-            max: max,
+            own: v.own,
+            max: v.max,
             tvl: tvl,
             dgvl: dgvl,
             area: PerhapsArea::Unset,
-            slots: [blank_slot(); 64],
+            slots: [blank_slot(); SLOTS],
         }
+    }
+
+    // The table that a refused start returns, and that of a box which nobody has started.
+    pub fn plain() -> Self
+        ensures { λ r. ⌜ r ≡ fresh valueSlots plainStart ⌝ }
+    {
+        Table::fresh(StartValues {
+            own: 0,
+            max: 2,
+            tvl: Interface {
+                kind: ETHERNET,
+                flag: 1,
+            },
+            dgvl: Interface {
+                kind: ETHERNET,
+                flag: 1,
+            },
+        })
     }
 }
 

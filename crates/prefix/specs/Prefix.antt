@@ -8,7 +8,11 @@ use Rattle.octets.specs.Digits.{bits}
 use Rattle.octets.specs.Runs.{same, allZero}
 use Rattle.prefix.specs.declared.Prefix.{Prefix}
 
--- the first bits, as many as the prefix's length, equal its own; length 0 means none
+-- length 0 means none
+abbrev pub noPrefix : Prefix
+noPrefix = record { len = 0; bytes = replicate 16 0 }
+
+-- the first bits, as many as the prefix's length, equal its own; none holds nothing
 unfoldable pub agrees : Prefix → List ℕ → Bool
 agrees p bytes = ltb 0 (p .len) && same (take (p .len) (bits (p .bytes))) (take (p .len) (bits bytes))
 

@@ -4,22 +4,35 @@ ghost use Prim.Native.Nat.{_+_, _*_, _-_, _/_, _%_, _^_, _≤_, _<_, min};
 ghost use lib.ListN.{length, take, drop};
 ghost use Rattle.octets.specs.Digits.{bits};
 ghost use Rattle.octets.specs.Runs.{same, allZero};
-ghost use Rattle.prefix.specs.Prefix.{agrees, holds, holdsPrefix, overlap, goodPrefix, bytesNeeded};
+ghost use Rattle.prefix.specs.Prefix.{noPrefix, agrees, holds, holdsPrefix, overlap, goodPrefix, bytesNeeded};
 
 pub struct Prefix {
     pub len: u8,
     pub bytes: [u8; 16],
 }
 
+// The longest length: an address has 128 bits.
+pub const LONGEST: u8 = 128;
+
 const LINK_LOCAL: [u8; 16] = [0xfe, 0x80, 0, 0, 0, 0, 0, 0, 0, 0, 0, 0, 0, 0, 0, 0];
 
 const MULTICAST: [u8; 16] = [0xff, 0, 0, 0, 0, 0, 0, 0, 0, 0, 0, 0, 0, 0, 0, 0];
 
-// An address has 128 bits, so a length above that asks for no more of them.
+// The prefix that holds nothing.
+pub fn none() -> Prefix
+    ensures { λ r. ⌜ r ≡ noPrefix ⌝ }
+{
+    Prefix {
+        len: 0,
+        bytes: [0; 16],
+    }
+}
+
+// A length above that of an address asks for no more bits than it has.
 fn bit_count(len: u8) -> usize
     ensures { λ r. ⌜ r ≡ min len 128 ⌝ }
 {
-    if 128 <= len {
+    if LONGEST <= len {
         return 128;
     }
     len as usize
@@ -29,7 +42,7 @@ fn bit_count(len: u8) -> usize
 pub fn bytes_needed(len: u64) -> usize
     ensures { λ r. ⌜ r ≡ bytesNeeded len ⌝ }
 {
-    if 128 <= len {
+    if LONGEST as u64 <= len {
         return 16;
     }
     ((len + 7) / 8) as usize
@@ -125,7 +138,7 @@ pub fn good(p: Prefix) -> bool
         len: 8,
         bytes: MULTICAST,
     };
-    (p.len <= 128)
+    (p.len <= LONGEST)
         & clear_after(bit_count(p.len), &p.bytes)
         & !overlaps(p, link_local)
         & !overlaps(p, multicast)

@@ -9,6 +9,8 @@ use Rattle.replies.specs.Rules.{Rule, _if_, _then_, refusal}
 use Rattle.area.specs.declared.Area.{Area}
 use Rattle.area.specs.Area.{goodArea, sameArea}
 use Rattle.ipv6.specs.Packet.{source, destination, packetRules}
+use Rattle.links.specs.declared.Chosen.{Chosen}
+use Rattle.links.specs.declared.LinkIndex.{LinkIndex}
 use Rattle.links.specs.declared.PerhapsLink.{PerhapsLink}
 use Rattle.links.specs.declared.PerhapsLink.the-variants.{Link as Linked, Nothing as NoLink}
 use Rattle.links.specs.declared.Settings.{Settings}
@@ -17,8 +19,10 @@ use Rattle.links.specs.declared.Table.{Table}
 use Rattle.links.specs.Settings.{midOk, reaches}
 use Rattle.links.specs.Slots.{free, counted, any, place, with}
 use Rattle.frames.specs.Frame.{frame}
+use Rattle.traffic.specs.declared.Choice.{Choice}
 use Rattle.traffic.specs.declared.Destination.{Destination}
 use Rattle.traffic.specs.declared.Destination.the-variants.{Mid, Within, Nothing}
+use Rattle.traffic.specs.declared.IndicationHead.{IndicationHead}
 use Rattle.traffic.specs.declared.Reception.{Reception}
 
 pub record Indication : Type 0 where
@@ -28,12 +32,12 @@ pub record Indication : Type 0 where
   pub destination : Destination
   pub packet : List ℕ
 
-abbrev pub indication : ℕ → ℕ → ℕ → Destination → List ℕ → Indication
-indication transport source class destination packet = record {
-  transport = transport;
-  source = source;
-  class = class;
-  destination = destination;
+abbrev pub indication : IndicationHead → List ℕ → Indication
+indication h packet = record {
+  transport = h .transport;
+  source = h .source;
+  class = h .class;
+  destination = h .destination;
   packet = packet;
 }
 
@@ -51,12 +55,25 @@ goodDestination (Within a) = goodArea a
 goodDestination Nothing = true
 
 -- no table stands here: whether an indication is refused is no matter of the table
+
+-- its values
+unfoldable pub indicationValues : Indication → List Rule
+indicationValues x = 1 if not (midOk (x .source) && rightSort (x .destination) (x .transport)) then []
+
+-- its area and its packet
+unfoldable pub contentRules : Indication → List Rule
+contentRules x = 2 if not (goodDestination (x .destination)) then packetRules (x .packet)
+
+-- what refuses it before a link is chosen
+unfoldable pub choiceRules : Indication → List Rule
+choiceRules x = indicationValues x ++ contentRules x
+
+-- room for a frame, on a link of any kind
+unfoldable pub roomRules : Indication → ℕ → List Rule
+roomRules x room = 13 if ltb room (length (x .packet) + 14) then []
+
 unfoldable pub indicationRules : Indication → ℕ → List Rule
-indicationRules x room =
-    1 if not (midOk (x .source) && rightSort (x .destination) (x .transport))
-    then 2 if not (goodDestination (x .destination))
-    then packetRules (x .packet)
-    ++ (13 if ltb room (length (x .packet) + 14) then [])
+indicationRules x room = choiceRules x ++ roomRules x room
 
 -- The four lines
 
@@ -108,7 +125,7 @@ choose l x =
 abbrev pub kindOf : Table → Link → ℕ
 kindOf t topological = t .tvl .kind
 kindOf t dynamic = t .dgvl .kind
-kindOf t (stop k s) = s .kind
+kindOf t (stop k s) = s .interface .kind
 
 abbrev pub indexNumber : Link → ℕ
 indexNumber topological = 0
@@ -117,6 +134,18 @@ indexNumber (stop k s) = k + 2
 
 abbrev pub indexOf : Link → PerhapsLink
 indexOf l = Linked (record { 0 = indexNumber l })
+
+-- the link of the indication, as a delivery asks for it
+abbrev pub chosenFor : Table → Indication → Chosen
+chosenFor t x = record { index = record { 0 = indexNumber (choose (counted t) x) }; kind = kindOf t (choose (counted t) x) }
+
+-- which link an indication would take: where it is refused for no want of room, none
+abbrev pub choiceOr : ℕ → PerhapsLink → Choice
+choiceOr zero link = record { number = 0; link = link }
+choiceOr (suc n) link = record { number = suc n; link = NoLink }
+
+unfoldable pub choiceOf : Table → Indication → Choice
+choiceOf t x = choiceOr (refusal (choiceRules x)) (indexOf (choose (counted t) x))
 
 -- the destination MID for transport 1, FF:FF:FF:FF:FF:FF otherwise
 abbrev pub macTo : Destination → ℕ
@@ -137,17 +166,20 @@ pub record Received : Type 0 where
   pub reply : Reception
   pub buffer : List ℕ
 
-abbrev pub deliverAs : List ℕ → Indication → List ℕ → Link → Received
-deliverAs w x buffer l = record {
-  reply = record { number = 0; link = indexOf l; length = length w; source = x .source; class = x .class };
+abbrev pub deliverAs : List ℕ → Indication → List ℕ → LinkIndex → Received
+deliverAs w x buffer index = record {
+  reply = record { number = 0; link = Linked index; length = length w; source = x .source; class = x .class };
   buffer = w ++ drop (length w) buffer;
 }
 
 abbrev pub deliver : Table → Indication → List ℕ → Link → Received
-deliver t x buffer l = deliverAs (frameOrPacket (kindOf t l) x) x buffer l
+deliver t x buffer l = deliverAs (frameOrPacket (kindOf t l) x) x buffer (record { 0 = indexNumber l })
+
+abbrev pub refusedReply : ℕ → Reception
+refusedReply n = record { number = n; link = NoLink; length = 0; source = 0; class = 0 }
 
 abbrev pub refuse : ℕ → List ℕ → Received
-refuse n buffer = record { reply = record { number = n; link = NoLink; length = 0; source = 0; class = 0 }; buffer = buffer }
+refuse n buffer = record { reply = refusedReply n; buffer = buffer }
 
 abbrev pub unless : ℕ → List ℕ → Received → Received
 unless zero buffer r = r
@@ -155,6 +187,11 @@ unless (suc n) buffer r = refuse (suc n) buffer
 
 unfoldable pub receive : Table → Indication → List ℕ → Received
 receive t x buffer = unless (refusal (indicationRules x (length buffer))) buffer (deliver t x buffer (choose (counted t) x))
+
+-- the half that knows no layout: an indication that nothing but the room can refuse, on the link that was chosen for it
+unfoldable pub deliverOn : Chosen → Indication → List ℕ → Received
+deliverOn c x buffer =
+    unless (refusal (roomRules x (length buffer))) buffer (deliverAs (frameOrPacket (c .kind) x) x buffer (c .index))
 
 -- what a call of the code promises of its reply r and of the buffer b that it leaves
 abbrev pub Promised : Table → Indication → List ℕ → Reception → List ℕ → Type 0

@@ -1,6 +1,6 @@
 -- Demands 1 and 2 of the mission, for every call of document 01: start, enable, disable, DGVL area and own MID (`links: Demands`),
 -- indication, request and interface address. The last three give back no table: they leave it as it is.
-use Prim.Native.Nat.{ℕ}
+use Prim.Native.Nat.{ℕ, _+_, _≤_}
 use mathlib.Core.Path.{_≡_}
 use mathlib.Core.Logic.{_≢_}
 use mathlib.Core.Bool.{true}
@@ -13,10 +13,10 @@ use Rattle.links.specs.declared.PerhapsLink.the-variants.{Nothing as NoLink}
 use Rattle.links.specs.declared.Slot.{Slot}
 use Rattle.links.specs.declared.Table.{Table}
 use Rattle.links.specs.Slots.{Has, counted}
-use Rattle.links.specs.Index.{enabledAt}
+use Rattle.links.specs.Index.{enabledAt, named}
 use Rattle.links.specs.Reached.{Reached}
 use Rattle.links.specs.Demands.{TableDemand1, TableDemand2}
-use Rattle.traffic.specs.Arrives.{Indication, Link, topological, dynamic, stop, choose, kindOf, indexOf, frameOrPacket, indicationRules, receive}
+use Rattle.traffic.specs.Arrives.{Indication, Link, topological, dynamic, stop, choose, kindOf, indexOf, frameOrPacket, choiceRules, choiceOf, indicationRules, receive}
 use Rattle.traffic.specs.Leaves.{Request, requestRules, down, send, interfaceRules, interface}
 
 -- Demand 1
@@ -28,6 +28,11 @@ pub record RefusesIndication (t : Table) (x : Indication) (buffer : List ℕ) : 
   pub noLength : receive t x buffer .reply .number ≢ 0 → receive t x buffer .reply .length ≡ 0
   pub unchanged : receive t x buffer .reply .number ≢ 0 → receive t x buffer .buffer ≡ buffer
 
+-- the question for its link, where no buffer is lent
+pub record RefusesChoice (t : Table) (x : Indication) : Type 0 where
+  pub exact : Exact (choiceRules x) (choiceOf t x .number)
+  pub noLink : choiceOf t x .number ≢ 0 → choiceOf t x .link ≡ NoLink
+
 -- a request, likewise
 pub record RefusesRequest (t : Table) (q : Request) : Type 0 where
   pub exact : Exact (requestRules t q) (send t q .number)
@@ -37,8 +42,9 @@ unfoldable pub Demand1 : Type 0
 Demand1 =
     TableDemand1
     × ((t : Table) (x : Indication) (buffer : List ℕ) → RefusesIndication t x buffer)
+    × ((t : Table) (x : Indication) → RefusesChoice t x)
     × ((t : Table) (q : Request) → RefusesRequest t q)
-    × ((t : Table) (i : ℕ) → Exact (interfaceRules t i) (interface t i .number))
+    × ((t : Table) (i : ℕ) → Exact (interfaceRules (enabledAt (counted t) i)) (interface t i .number))
 
 -- Demand 2, over reached tables
 
@@ -59,11 +65,16 @@ pub record Delivers (t : Table) (x : Indication) (buffer : List ℕ) : Type 0 wh
   pub rest : drop (receive t x buffer .reply .length) (receive t x buffer .buffer) ≡ drop (receive t x buffer .reply .length) buffer
   pub size : length (receive t x buffer .buffer) ≡ length buffer
 
+-- the link that is foretold without a buffer is the one that a buffer with room for a frame is given
+pub record Foretells (t : Table) (x : Indication) (buffer : List ℕ) : Type 0 where
+  pub number : receive t x buffer .reply .number ≡ choiceOf t x .number
+  pub link : receive t x buffer .reply .link ≡ choiceOf t x .link
+
 -- a request that is done: what document 01 sends down, with its class and its packet's length
 pub record Sends (t : Table) (q : Request) : Type 0 where
   pub enabled : enabledAt (counted t) (q .index) ≡ true
-  pub transport : send t q .transport ≡ down t q .transport
-  pub destination : send t q .destination ≡ down t q .destination
+  pub transport : send t q .transport ≡ down (named t (q .index)) q .transport
+  pub destination : send t q .destination ≡ down (named t (q .index)) q .destination
   pub class : send t q .class ≡ q .class
   pub packetLength : send t q .length ≡ length (q .packet)
 
@@ -77,5 +88,6 @@ Demand2 =
     TableDemand2
     × ((most : ℕ) (memory : List Slot) (t : Table) → Reached most memory t →
     ((x : Indication) (buffer : List ℕ) → receive t x buffer .reply .number ≡ 0 → Delivers t x buffer)
+    × ((x : Indication) (buffer : List ℕ) → length (x .packet) + 14 ≤ length buffer → Foretells t x buffer)
     × ((q : Request) → send t q .number ≡ 0 → Sends t q)
     × ((i : ℕ) → interface t i .number ≡ 0 → Addresses t i))

@@ -13,13 +13,15 @@ use Rattle.ipv6.specs.Identifier.{midOf, linkLocal}
 use Rattle.links.specs.declared.PerhapsArea.{PerhapsArea}
 use Rattle.links.specs.declared.PerhapsArea.the-variants.{Set, Unset}
 use Rattle.links.specs.declared.Interface.{Interface}
+use Rattle.links.specs.declared.Named.{Named}
 use Rattle.links.specs.declared.Table.{Table}
 use Rattle.links.specs.Settings.{midOk}
 use Rattle.links.specs.Slots.{counted}
-use Rattle.links.specs.Index.{enabledAt, interfaceAt, areaAt}
+use Rattle.links.specs.Index.{enabledAt, named}
 use Rattle.traffic.specs.declared.Destination.{Destination}
 use Rattle.traffic.specs.declared.Destination.the-variants.{Mid, Within, Nothing}
 use Rattle.traffic.specs.declared.InterfaceAddress.{InterfaceAddress}
+use Rattle.traffic.specs.declared.RequestHead.{RequestHead}
 use Rattle.traffic.specs.declared.Sending.{Sending}
 
 pub record Request : Type 0 where
@@ -28,10 +30,10 @@ pub record Request : Type 0 where
   pub neighbour : PerhapsMid
   pub packet : List ℕ
 
-abbrev pub request : ℕ → ℕ → PerhapsMid → List ℕ → Request
-request index class neighbour packet = record { index = index; class = class; neighbour = neighbour; packet = packet }
+abbrev pub request : RequestHead → List ℕ → Request
+request h packet = record { index = h .index .0; class = h .class; neighbour = h .neighbour; packet = packet }
 
--- What is sent
+-- What is sent on a link, whatever the layout of the table that it was found in
 
 -- on kind 3, or with flag 1, the MID comes from the packet's destination; with flag 0 on kinds 1 and 2 it is the MID given
 unfoldable pub neighbourOf : Interface → PerhapsMid → List ℕ → PerhapsMid
@@ -50,13 +52,13 @@ abbrev pub toNeighbour : PerhapsMid → Destination
 toNeighbour (Known m) = Mid m
 toNeighbour Unknown = Nothing
 
-unfoldable pub down : Table → Request → Down
-down t q =
+unfoldable pub down : Named → Request → Down
+down l q =
     cond (multicast (destination (q .packet)))
     (cond (eqb (q .index) 0)
     (record { transport = 4; destination = Nothing })
-    (record { transport = 3; destination = within (areaAt t (q .index)) }))
-    (record { transport = 1; destination = toNeighbour (neighbourOf (interfaceAt t (q .index)) (q .neighbour) (q .packet)) })
+    (record { transport = 3; destination = within (l .area) }))
+    (record { transport = 1; destination = toNeighbour (neighbourOf (l .interface) (q .neighbour) (q .packet)) })
 
 -- Refusals
 
@@ -73,42 +75,60 @@ isUnknown (Known m) = false
 isUnknown Unknown = true
 
 -- 11: multicast on the DGVL without an area; 12: neighbour not resolvable
-unfoldable pub resolveRules : Table → Request → List Rule
-resolveRules t q =
-    11 if (multicast (destination (q .packet)) && eqb (q .index) 1 && isUnset (t .area))
-    then 12 if (not (multicast (destination (q .packet))) && isUnknown (neighbourOf (interfaceAt t (q .index)) (q .neighbour) (q .packet)))
+unfoldable pub resolveRules : Named → Request → List Rule
+resolveRules l q =
+    11 if (multicast (destination (q .packet)) && eqb (q .index) 1 && isUnset (l .area))
+    then 12 if (not (multicast (destination (q .packet))) && isUnknown (neighbourOf (l .interface) (q .neighbour) (q .packet)))
     then []
 
-unfoldable pub requestRules : Table → Request → List Rule
-requestRules t q =
-    1 if not (neighbourOk (q .neighbour))
-    then 7 if not (enabledAt (counted t) (q .index))
+-- its values
+unfoldable pub requestValues : Request → List Rule
+requestValues q = 1 if not (neighbourOk (q .neighbour)) then []
+
+-- on the link that its index names
+unfoldable pub linkRules : Named → Request → List Rule
+linkRules l q =
+    7 if not (l .enabled)
     then packetRules (q .packet)
-    ++ resolveRules t q
+    ++ resolveRules l q
+
+unfoldable pub requestRules : Table → Request → List Rule
+requestRules t q = requestValues q ++ linkRules (named t (q .index)) q
 
 -- The reply
 
-abbrev pub sending : ℕ → Table → Request → Sending
-sending zero t q = record {
+abbrev pub notSent : ℕ → Sending
+notSent n = record { number = n; transport = 0; destination = Nothing; class = 0; length = 0 }
+
+abbrev pub sending : ℕ → Named → Request → Sending
+sending zero l q = record {
   number = 0;
-  transport = down t q .transport;
-  destination = down t q .destination;
+  transport = down l q .transport;
+  destination = down l q .destination;
   class = q .class;
   length = length (q .packet);
 }
-sending (suc n) t q = record { number = suc n; transport = 0; destination = Nothing; class = 0; length = 0 }
+sending (suc n) l q = notSent (suc n)
 
 unfoldable pub send : Table → Request → Sending
-send t q = sending (refusal (requestRules t q)) t q
+send t q = sending (refusal (requestRules t q)) (named t (q .index)) q
+
+-- the half that knows no layout: a request whose values are good, on the link that its index names
+unfoldable pub sendOn : Named → Request → Sending
+sendOn l q = sending (refusal (linkRules l q)) l q
 
 -- The interface address of an enabled link: the own MID, and fe80::/64 with the identifier built from it
 
-unfoldable pub interfaceRules : Table → ℕ → List Rule
-interfaceRules t i = 7 if not (enabledAt (counted t) i) then []
+unfoldable pub interfaceRules : Bool → List Rule
+interfaceRules enabled = 7 if not enabled then []
 
-abbrev pub answerInterface : ℕ → Table → InterfaceAddress
-answerInterface zero t = record { number = 0; mid = t .own; address = linkLocal (t .own) }
-answerInterface (suc n) t = record { number = suc n; mid = 0; address = replicate 16 0 }
+abbrev pub answerInterface : ℕ → ℕ → InterfaceAddress
+answerInterface zero own = record { number = 0; mid = own; address = linkLocal own }
+answerInterface (suc n) own = record { number = suc n; mid = 0; address = replicate 16 0 }
+
+-- the half that knows no layout: whether the link is enabled, and the own MID
+unfoldable pub interfaceOn : Bool → ℕ → InterfaceAddress
+interfaceOn enabled own = answerInterface (refusal (interfaceRules enabled)) own
 
 unfoldable pub interface : Table → ℕ → InterfaceAddress
-interface t i = answerInterface (refusal (interfaceRules t i)) t
+interface t i = interfaceOn (enabledAt (counted t) i) (t .own)

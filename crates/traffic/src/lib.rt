@@ -1,13 +1,39 @@
 // Document 01, What arrives and What leaves: the types of indications and requests. What they are answered is defined in specs/,
 // and demand 3 is proved here of the definitions, for every layout of the table.
 use area::Area;
+use ipv6::PerhapsMid;
+use links::LinkIndex;
 use links::PerhapsLink;
+
+// The transports of GeoNetworking.
+pub const GEO_UNICAST: u8 = 1;
+
+pub const GEO_ANYCAST: u8 = 2;
+
+pub const GEO_BROADCAST: u8 = 3;
+
+pub const TSB: u8 = 4;
 
 // A destination is a MID, an area, or nothing.
 pub enum Destination {
     Mid(u64),
     Within(Area),
     Nothing,
+}
+
+// An indication but for its packet, which is lent beside it.
+pub struct IndicationHead {
+    pub transport: u8,
+    pub source: u64,
+    pub class: u8,
+    pub destination: Destination,
+}
+
+// A request but for its packet, which is lent beside it.
+pub struct RequestHead {
+    pub index: LinkIndex,
+    pub class: u8,
+    pub neighbour: PerhapsMid,
 }
 
 // What an indication answers; what is written stands in the lent buffer.
@@ -17,6 +43,12 @@ pub struct Reception {
     pub length: usize,
     pub source: u64,
     pub class: u8,
+}
+
+// What the question for the link of an indication answers, where no buffer is lent.
+pub struct Choice {
+    pub number: u8,
+    pub link: PerhapsLink,
 }
 
 // What a request answers: what goes down to GeoNetworking with its packet.

@@ -7,11 +7,8 @@ use Rattle.links.specs.declared.Settings.{Settings}
 use Rattle.links.specs.declared.Slot.{Slot}
 use Rattle.links.specs.declared.Table.{Table}
 use Rattle.links.specs.Settings.{sameGround, overlaps, reaches}
-use Rattle.links.specs.Index.{enabledAt, interfaceAt, areaAt}
 use Rattle.links.specs.Slots.{free, counted, unused, with}
-use Rattle.value_slots.specs.declared.Chosen.{Chosen}
 use Rattle.value_slots.specs.declared.Found.{Found}
-use Rattle.value_slots.specs.declared.index.Named.{Named}
 use Rattle.value_slots.specs.declared.Wanted.{Wanted}
 use Rattle.value_slots.specs.declared.Wanted.the-variants.{Unused, SameGround, Overlapping, Reaching}
 
@@ -23,12 +20,4 @@ passes Reaching s address = with (λ r. reaches r address)
 
 -- a slot by its place, and the kind that it has
 abbrev pub found : Table → ℕ → Found
-found t k = record { place = k; kind = getD (counted t) k free .settings .kind }
-
--- a link by its index, and its kind
-abbrev pub chosen : Table → ℕ → Chosen
-chosen t i = record { index = i; kind = interfaceAt t i .kind }
-
--- what a request asks of a link
-abbrev pub named : Table → ℕ → Named
-named t i = record { enabled = enabledAt (counted t) i; interface = interfaceAt t i; area = areaAt t i }
+found t k = record { place = k; kind = getD (counted t) k free .settings .interface .kind }

@@ -1,28 +1,20 @@
 // The link that an index names, fixed or stop.
-use links::Interface;
 use links::LinkIndex;
+use links::Named;
 use links::PerhapsArea;
 use links::Table;
 ghost use mathlib.Core.Path.{_≡_};
 ghost use Rattle.links.specs.Slots.{counted};
-ghost use Rattle.links.specs.Index.{enabledAt};
-ghost use Rattle.value_slots.specs.Search.{named};
+ghost use Rattle.links.specs.Index.{enabledAt, named};
 
 pub fn is_enabled(t: Table, index: LinkIndex) -> bool
     ensures { λ r. ⌜ r ≡ enabledAt (counted t) (index .0) ⌝ }
 {
     let slot = crate::slot_at(t, index);
-    (index.0 < 2) | slot.enabled
+    (index.0 < LinkIndex::FIRST_STOP.0) | slot.enabled
 }
 
-// What a request asks of a link.
-pub struct Named {
-    pub enabled: bool,
-    pub interface: Interface,
-    pub area: PerhapsArea,
-}
-
-// The link itself: its kind and flag, and its area. The topological link has no area, the dynamic link perhaps one. One function
+// The link itself: its interface and its area. The topological link has no area, the dynamic link perhaps one. One function
 // gives them all because each function that reads a slot of its table copies the whole table.
 pub fn link_at(t: Table, index: LinkIndex) -> Named
     ensures { λ r. ⌜ r ≡ named t (index .0) ⌝ }
@@ -48,12 +40,10 @@ pub fn link_at(t: Table, index: LinkIndex) -> Named
     let slot = crate::slot_at(t, index);
     let s = slot.settings;
     let a = s.area;
+    let f = s.interface;
     Named {
         enabled: slot.enabled,
-        interface: Interface {
-            kind: s.kind,
-            flag: s.flag,
-        },
+        interface: f,
         area: PerhapsArea::Set(a),
     }
 }

@@ -2,6 +2,7 @@
 // unused index, is asked of the one loop in `find`.
 pub mod index;
 
+use links::Chosen;
 use links::LinkIndex;
 use links::Settings;
 use links::Slot;
@@ -12,7 +13,8 @@ ghost use mathlib.Core.Bool.{cond};
 ghost use Prim.Native.Nat.{_+_, _-_, min};
 ghost use Rattle.links.specs.Slots.{counted, slotAt, any, place, unused};
 ghost use Rattle.links.specs.Calls.{withSlot};
-ghost use Rattle.value_slots.specs.Search.{passes, found, chosen};
+ghost use Rattle.links.specs.Index.{chosen};
+ghost use Rattle.value_slots.specs.Search.{passes, found};
 
 // Which slot is looked for.
 pub enum Wanted {
@@ -43,18 +45,16 @@ fn slot_count(max: usize) -> usize
     if max == 0 {
         return 0;
     }
-    if max < 65 { max - 1 } else { 64 }
+    if max < links::MOST {
+        max - 1
+    } else {
+        links::SLOTS
+    }
 }
 
 // The first slot that is wanted: its place, and its kind. Where there is none, the number of slots that count, and 0.
 pub struct Found {
     pub place: usize,
-    pub kind: u8,
-}
-
-// A link by its index, and its kind.
-pub struct Chosen {
-    pub index: usize,
     pub kind: u8,
 }
 
@@ -68,9 +68,10 @@ fn find(t: Table, wanted: Wanted, s: Settings, address: &[u8]) -> Found
         let x = t.slots[i];
         if is_wanted(x, wanted, s, address) {
             let r = x.settings;
+            let f = r.interface;
             return Found {
                 place: i,
-                kind: r.kind,
+                kind: f.kind,
             };
         }
         i += 1;
@@ -101,12 +102,12 @@ pub fn link_or_dynamic(t: Table, wanted: Wanted, s: Settings, address: &[u8]) ->
     let dgvl = t.dgvl;
     if f.place < slot_count(t.max) {
         return Chosen {
-            index: f.place + 2,
+            index: LinkIndex(f.place + 2),
             kind: f.kind,
         };
     }
     Chosen {
-        index: LinkIndex::DGVL.0,
+        index: LinkIndex::DGVL,
         kind: dgvl.kind,
     }
 }
@@ -124,7 +125,7 @@ pub fn slot_at(t: Table, index: LinkIndex) -> Slot
     ensures { λ r. ⌜ r ≡ slotAt (counted t) (index .0) ⌝ }
 {
     let i = index.0;
-    if i < 2 {
+    if i < LinkIndex::FIRST_STOP.0 {
         return links::blank_slot();
     }
     let k = i - 2;
@@ -138,7 +139,7 @@ pub fn slot_at(t: Table, index: LinkIndex) -> Slot
 pub fn with_slot(mut t: Table, k: usize, x: Slot) -> Table
     ensures { λ r. ⌜ r ≡ withSlot t k x ⌝ }
 {
-    if k < 64 {
+    if k < links::SLOTS {
         t.slots[k] = x;
     }
     t

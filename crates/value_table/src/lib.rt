@@ -1,16 +1,16 @@
 // Document 01, Virtual links: the calls that alter the table, over a table by value.
 // A call takes the table and returns it with the reply; a refusal returns it as it was.
-use links::Interface;
 use links::LinkIndex;
 use links::PerhapsArea;
 use links::PerhapsLink;
 use links::Reply;
 use links::Settings;
 use links::Slot;
+use links::StartValues;
 use links::Table;
 use value_slots::Wanted;
 ghost use mathlib.Core.Path.{_≡_};
-ghost use Rattle.links.specs.Calls.{start, reply, enable, disable, setArea, setOwn};
+ghost use Rattle.links.specs.Calls.{startByValue, reply, enable, disable, setArea, setOwn};
 
 fn without_link(t: Table, number: u8) -> Reply
     ensures { λ r. ⌜ r ≡ record { number = number; link = PerhapsLink.Nothing; table = t } ⌝ }
@@ -22,22 +22,14 @@ fn without_link(t: Table, number: u8) -> Reply
     }
 }
 
-pub fn start(own: u64, max: usize, tvl: Interface, dgvl: Interface) -> Reply
-    ensures { λ r. ⌜ r ≡ start own max tvl dgvl ⌝ }
+pub fn start(v: StartValues) -> Reply
+    ensures { λ r. ⌜ r ≡ startByValue v ⌝ }
 {
-    let good = links::checks::mid_ok(own)
-        & (2 <= max)
-        & (max <= links::MOST)
-        & links::checks::interface_ok(tvl.kind, tvl.flag)
-        & links::checks::interface_ok(dgvl.kind, dgvl.flag);
-    if good {
-        return without_link(Table::fresh(own, max, tvl, dgvl), replies::DONE);
+    let bad = links::checks::start_refusal(links::MOST, v);
+    if bad != replies::DONE {
+        return without_link(Table::plain(), bad);
     }
-    let plain = Interface { kind: 1, flag: 1 };
-    without_link(
-        Table::fresh(0, 2, plain, plain),
-        replies::VALUE_OUT_OF_RANGE,
-    )
+    without_link(Table::fresh(v), replies::DONE)
 }
 
 pub fn enable(t: Table, s: Settings) -> Reply

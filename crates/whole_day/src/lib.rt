@@ -1,14 +1,10 @@
 // A whole day file replayed in one call, for C to link: what the benchmark times. The answer is a checksum over the replies,
 // so that two programs that agree in it agree in every line of the listing.
 use dayfile::records;
-use links::Interface;
 use links::PerhapsLink;
 use links::Table;
 ghost use mathlib.Core.Path.{_≡_};
 ghost use Prim.Native.Nat.{_+_, _*_, _%_};
-ghost use lib.ListN.{replicate};
-ghost use Rattle.links.specs.Calls.{plain, fresh};
-ghost use Rattle.links.specs.Slots.{free};
 ghost use Rattle.whole_day.specs.Day.{mixed, linkNumber, lineSum, sumOf, bufferOf};
 
 fn mixed(sum: u64, x: u64) -> u64
@@ -37,14 +33,6 @@ fn line_sum(sum: u64, number: u8, link: PerhapsLink, length: usize) -> u64
     )
 }
 
-// A box that nobody has started: no call reads its table.
-fn unstarted() -> Table
-    ensures { λ r. ⌜ r ≡ fresh (replicate 64 free) 0 2 plain plain ⌝ }
-{
-    let plain = Interface { kind: 1, flag: 1 };
-    Table::fresh(0, 2, plain, plain)
-}
-
 // The checksum of the day; every indication is lent `out`. A record has two bytes or more, so that as many turns as there are
 // bytes replay every input.
 #[no_mangle]
@@ -52,7 +40,7 @@ pub extern "C" fn gn6_whole_day(input: &[u8], out: &mut [u8]) -> u64
     ensures { λ r. ⌜ (r ≡ sumOf (now (input .entry)) (now (out .entry))) × (now (out .exit) ≡ bufferOf (now (input .entry)) (now (out .entry))) ⌝ }
 {
     let mut started = false;
-    let mut t = unstarted();
+    let mut t = Table::plain();
     let mut at: usize = 0;
     let mut sum: u64 = 0;
     let mut turns: usize = input.len();
@@ -61,8 +49,8 @@ pub extern "C" fn gn6_whole_day(input: &[u8], out: &mut [u8]) -> u64
         let call = r.call;
         turns -= 1;
         if replay::alters(started, call) {
-            let prefix = r.prefix;
-            let a = replay::altered(t, prefix, call);
+            let c = r.carried;
+            let a = replay::altered(t, c, call);
             let link = a.link;
             let table = a.table;
             sum = line_sum(sum, a.number, link, 0);

@@ -1,62 +1,62 @@
-// The choice of a link, by the first of document 01's four lines that fits.
+// The choice of a link of a table by value, by the first of document 01's four lines that fits.
 use area::Area;
+use links::Chosen;
+use links::Interface;
 use links::LinkIndex;
 use links::Settings;
 use links::Table;
 use traffic::Destination;
-use value_slots::Chosen;
+use traffic::IndicationHead;
 use value_slots::Wanted;
 ghost use mathlib.Core.Path.{_≡_};
-ghost use Rattle.links.specs.Slots.{counted};
-ghost use Rattle.value_slots.specs.Search.{chosen};
-ghost use Rattle.traffic.specs.Arrives.{indication, choose, indexNumber};
+ghost use Rattle.traffic.specs.Arrives.{indication, chosenFor};
 
 // Settings for a question about the area alone.
 fn of_area(a: Area) -> Settings
     ensures { λ r. ⌜ r .area ≡ a ⌝ }
 {
-    let slot = links::blank_slot();
-    let s = slot.settings;
-    let prefix = s.prefix;
+    let prefix = prefix::none();
     Settings {
         area: a,
         prefix: prefix,
-        kind: 0,
-        flag: 0,
+        interface: Interface { kind: 0, flag: 0 },
     }
 }
 
-// The link by its index, and its kind. The source MID and the class of the indication decide nothing.
-pub fn link_of(t: Table, transport: u8, d: Destination, packet: &[u8]) -> Chosen
-    ensures { λ r. ⌜ r ≡ chosen t (indexNumber (choose (counted t) (indication transport 0 0 d (now (packet .entry))))) ⌝ }
+// The link by its index, and its kind.
+pub fn link_of(t: Table, h: IndicationHead, packet: &[u8]) -> Chosen
+    ensures { λ r. ⌜ r ≡ chosenFor t (indication h (now (packet .entry))) ⌝ }
 {
+    let transport = h.transport;
     let tvl = t.tvl;
     let dgvl = t.dgvl;
     let topological = Chosen {
-        index: LinkIndex::TVL.0,
+        index: LinkIndex::TVL,
         kind: tvl.kind,
     };
     let dynamic = Chosen {
-        index: LinkIndex::DGVL.0,
+        index: LinkIndex::DGVL,
         kind: dgvl.kind,
     };
-    if transport == 4 {
+    if transport == traffic::TSB {
         return topological;
     }
-    if transport == 1 {
+    if transport == traffic::GEO_UNICAST {
         let slot = links::blank_slot();
         let s = slot.settings;
         let to = ipv6::destination_of(packet);
         let from = ipv6::source_of(packet);
         let found = value_slots::link_or_dynamic(t, Wanted::Reaching, s, to);
-        if found.index != LinkIndex::DGVL.0 {
+        let index = found.index;
+        if index.0 != LinkIndex::DGVL.0 {
             return found;
         }
         return value_slots::link_or_dynamic(t, Wanted::Reaching, s, from);
     }
-    if !((transport == 2) | (transport == 3)) {
+    if !((transport == traffic::GEO_ANYCAST) | (transport == traffic::GEO_BROADCAST)) {
         return dynamic;
     }
+    let d = h.destination;
     match d {
         Destination::Within(a) => value_slots::link_or_dynamic(
             t,

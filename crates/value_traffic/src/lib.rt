@@ -1,0 +1,61 @@
+// Document 01, What arrives and What leaves, over a table by value: the link is looked for here, and the rest is `arrives` and
+// `leaves`. The table does not change.
+mod choice;
+
+use links::LinkIndex;
+use links::PerhapsLink;
+use links::Table;
+use traffic::Choice;
+use traffic::IndicationHead;
+use traffic::InterfaceAddress;
+use traffic::Reception;
+use traffic::RequestHead;
+use traffic::Sending;
+ghost use mathlib.Core.Path.{_≡_};
+ghost use Rattle.traffic.specs.Arrives.{indication, choiceOf, Promised};
+ghost use Rattle.traffic.specs.Leaves.{request, send, interface};
+
+// Which link an indication would take, where no buffer is lent.
+pub fn link_of(t: Table, h: IndicationHead, packet: &[u8]) -> Choice
+    ensures { λ r. ⌜ r ≡ choiceOf t (indication h (now (packet .entry))) ⌝ }
+{
+    let bad = arrives::choice_refusal(h, packet);
+    if bad != replies::DONE {
+        return Choice {
+            number: bad,
+            link: PerhapsLink::Nothing,
+        };
+    }
+    let chosen = choice::link_of(t, h, packet);
+    let index = chosen.index;
+    Choice {
+        number: replies::DONE,
+        link: PerhapsLink::Link(index),
+    }
+}
+
+pub fn indication(t: Table, h: IndicationHead, packet: &[u8], out: &mut [u8]) -> Reception
+    ensures { λ r. ⌜ Promised t (indication h (now (packet .entry))) (now (out .entry)) r (now (out .exit)) ⌝ }
+{
+    let bad = arrives::choice_refusal(h, packet);
+    if bad != replies::DONE {
+        return arrives::refused(bad);
+    }
+    arrives::deliver(choice::link_of(t, h, packet), h, packet, out)
+}
+
+pub fn request(t: Table, h: RequestHead, packet: &[u8]) -> Sending
+    ensures { λ r. ⌜ r ≡ send t (request h (now (packet .entry))) ⌝ }
+{
+    let bad = leaves::values_refusal(h);
+    if bad != replies::DONE {
+        return leaves::refused(bad);
+    }
+    leaves::send_on(value_slots::index::link_at(t, h.index), h, packet)
+}
+
+pub fn interface_address(t: Table, index: LinkIndex) -> InterfaceAddress
+    ensures { λ r. ⌜ r ≡ interface t (index .0) ⌝ }
+{
+    leaves::address_on(value_slots::index::is_enabled(t, index), t.own)
+}
