@@ -5,27 +5,26 @@ use mathlib.Core.Path.{_≡_, refl, sym, _∙_, ap, subst}
 use mathlib.Core.Logic.{_≢_}
 use mathlib.Core.Bool.{true}
 use mathlib.Core.List.{List}
-use lib.Dec.{lit<}
-use lib.ListN.{length, getD, set, replicate}
+use lib.ListN.{length, getD, set}
 use lib.Seq.{getD-set-same, getD-set-other}
 use borrow.Author.Tests.{ltb-true, ltb-false, not-true, not-false}
 use Rattle.replies.specs.Rules.{refusal, None, Exact}
 use Rattle.replies.proofs.Laws.Refusals.{done-exactly, none-right, exact}
-use Rattle.links.specs.declared.Interface.{Interface}
 use Rattle.links.specs.declared.PerhapsLink.the-variants.{Nothing}
 use Rattle.links.specs.declared.Reply.{Reply}
 use Rattle.links.specs.declared.Settings.{Settings}
 use Rattle.links.specs.declared.Slot.{Slot}
+use Rattle.links.specs.declared.StartValues.{StartValues}
 use Rattle.links.specs.declared.Table.{Table}
 use Rattle.links.specs.Settings.{settingsRules}
 use Rattle.links.specs.Slots.{free, inUse, counted, slotAt, any, place, unused}
-use Rattle.links.specs.Calls.{TableCall, enable, disable, setArea, setOwn, slotRules, rules, linkAfter, tableAfter, answer, reply, withSlot, startRules, fresh, plain, begin, start}
+use Rattle.links.specs.Calls.{TableCall, enable, disable, setArea, setOwn, slotRules, rules, linkAfter, tableAfter, answer, reply, withSlot, startValues, fresh, plainStart, begin, start}
 use Rattle.links.specs.Reached.{Sound}
 use Rattle.links.specs.Demands.{Refuses, RefusesStart, TableDemand1, DifferAt, Adds, Removes, TableDemand2}
 use Rattle.links.proofs.Laws.Search.{any-place, before-place, at-place}
 use Rattle.links.proofs.Laws.Counted.{enabled-below, slot-of-stop}
 use Rattle.links.proofs.Laws.Slots.{counted-with}
-use Rattle.links.proofs.Laws.Replies.{numbered, done}
+use Rattle.links.proofs.Laws.Replies.{numbered, start-numbered, done}
 use Rattle.links.proofs.Laws.Sound.{sound}
 
 -- Demand 1
@@ -45,22 +44,19 @@ refuses t c = record {
   unchanged = unchanged (refusal (rules (counted t) c)) t c;
 }
 
-begin-number : (n : ℕ) (memory : List Slot) (own max : ℕ) (tvl dgvl : Interface) → begin n memory own max tvl dgvl .number ≡ n
-begin-number zero memory own max tvl dgvl = refl
-begin-number (suc n) memory own max tvl dgvl = refl
+begin-number : (n : ℕ) (memory : List Slot) (v : StartValues) → begin n memory v .number ≡ n
+begin-number zero memory v = refl
+begin-number (suc n) memory v = refl
 
-begin-plain : (n : ℕ) (memory : List Slot) (own max : ℕ) (tvl dgvl : Interface) → begin n memory own max tvl dgvl .number ≢ 0
-    → begin n memory own max tvl dgvl .table ≡ fresh memory 0 2 plain plain
-begin-plain zero memory own max tvl dgvl h = absurd (h refl)
-begin-plain (suc n) memory own max tvl dgvl h = refl
+begin-plain : (n : ℕ) (memory : List Slot) (v : StartValues) → begin n memory v .number ≢ 0 → begin n memory v .table ≡ fresh memory plainStart
+begin-plain zero memory v h = absurd (h refl)
+begin-plain (suc n) memory v h = refl
 
-pub refuses-start : (own max : ℕ) (tvl dgvl : Interface) → RefusesStart own max tvl dgvl
-unfolding start startRules
-refuses-start own max tvl dgvl = record {
-  exact =
-      subst (Exact (startRules 65 own max tvl dgvl)) (sym (begin-number (refusal (startRules 65 own max tvl dgvl)) (replicate 64 free) own max tvl dgvl))
-      (exact (startRules 65 own max tvl dgvl) (lit< tt, tt));
-  plainTable = begin-plain (refusal (startRules 65 own max tvl dgvl)) (replicate 64 free) own max tvl dgvl;
+pub refuses-start : (most : ℕ) (memory : List Slot) (v : StartValues) → RefusesStart most memory v
+unfolding start
+refuses-start most memory v = record {
+  exact = subst (Exact (startValues most v)) (sym (begin-number (refusal (startValues most v)) memory v)) (exact (startValues most v) (start-numbered most v));
+  plainTable = begin-plain (refusal (startValues most v)) memory v;
 }
 
 pub table-demand-1 : TableDemand1

@@ -5,14 +5,15 @@ use mathlib.Core.Path.{_≡_, ap}
 use mathlib.Core.List.{List}
 use lib.Dec.{lit<}
 use Rattle.replies.specs.Rules.{refusal}
-use Rattle.replies.proofs.Laws.Refusals.{Numbered, done-exactly, refusal-more, refusal-next}
+use Rattle.replies.proofs.Laws.Refusals.{Numbered, numbered-append, done-exactly, refusal-more, refusal-next}
 use Rattle.links.specs.declared.PerhapsLink.the-variants.{Nothing}
 use Rattle.links.specs.declared.Settings.{Settings}
 use Rattle.links.specs.declared.Slot.{Slot}
+use Rattle.links.specs.declared.StartValues.{StartValues}
 use Rattle.links.specs.declared.Table.{Table}
-use Rattle.links.specs.Settings.{settingsRules}
+use Rattle.links.specs.Settings.{settingsValues, groundRules, settingsRules}
 use Rattle.links.specs.Slots.{counted}
-use Rattle.links.specs.Calls.{TableCall, enable, disable, setArea, setOwn, slotRules, rules, linkAfter, tableAfter, answer, reply}
+use Rattle.links.specs.Calls.{TableCall, enable, disable, setArea, setOwn, slotRules, rules, linkAfter, tableAfter, answer, reply, startValues}
 
 pub refused : (t : Table) (c : TableCall) (n : ℕ) → 0 < n → refusal (rules (counted t) c) ≡ n → reply t c ≡ record { number = n; link = Nothing; table = t }
 unfolding reply
@@ -23,16 +24,32 @@ pub done : (t : Table) (c : TableCall) → refusal (rules (counted t) c) ≡ 0 �
 unfolding reply
 done t c e = ap (λ (m : ℕ). answer m t c) e
 
+pub values-numbered : (s : Settings) → Numbered (settingsValues s)
+unfolding settingsValues
+values-numbered s = (lit< tt, tt)
+
+ground-numbered : (s : Settings) → Numbered (groundRules s)
+unfolding groundRules
+ground-numbered s = (lit< tt, (lit< tt, tt))
+
 pub settings-numbered : (s : Settings) → Numbered (settingsRules s)
 unfolding settingsRules
-settings-numbered s = (lit< tt, (lit< tt, (lit< tt, tt)))
+settings-numbered s = numbered-append (settingsValues s) (groundRules s) (values-numbered s) (ground-numbered s)
+
+slots-numbered : (l : List Slot) (s : Settings) → Numbered (slotRules l s)
+unfolding slotRules
+slots-numbered l s = (lit< tt, (lit< tt, (lit< tt, tt)))
 
 pub numbered : (l : List Slot) (c : TableCall) → Numbered (rules l c)
-unfolding rules settingsRules slotRules
-numbered l (enable s) = (lit< tt, (lit< tt, (lit< tt, (lit< tt, (lit< tt, (lit< tt, tt))))))
+unfolding rules
+numbered l (enable s) = numbered-append (settingsRules s) (slotRules l s) (settings-numbered s) (slots-numbered l s)
 numbered l (disable i) = (lit< tt, (lit< tt, tt))
 numbered l (setArea a) = (lit< tt, tt)
 numbered l (setOwn m) = (lit< tt, tt)
+
+pub start-numbered : (most : ℕ) (v : StartValues) → Numbered (startValues most v)
+unfolding startValues
+start-numbered most v = (lit< tt, tt)
 
 -- an enable: first the settings decide, then the enabled links
 pub by-settings : (l : List Slot) (s : Settings) (n : ℕ) → 0 < n → refusal (settingsRules s) ≡ n → refusal (rules l (enable s)) ≡ n

@@ -5,42 +5,43 @@ use mathlib.Core.Path.{_≡_, refl, sym, _∙_, subst}
 use mathlib.Core.Logic.{_⊎_, inl, inr}
 use mathlib.Core.Bool.{true, and-eq-true-iff}
 use mathlib.Core.List.{List}
-use lib.Dec.{lit<, lit≤}
-use lib.ListN.{length, take, set, getD, replicate, length-take}
+use lib.Dec.{lit≤}
+use lib.ListN.{length, take, set, getD, length-take}
 use borrow.Author.Tests.{leb-true, ltb-true, ltb-false, not-false}
 use Rattle.octets.proofs.Laws.Tests.{clash}
 use Rattle.replies.specs.Rules.{refusal, None}
 use Rattle.replies.proofs.Laws.Refusals.{done-exactly, none-left, none-right}
 use Rattle.links.specs.declared.PerhapsArea.{PerhapsArea}
-use Rattle.links.specs.declared.Interface.{Interface}
 use Rattle.links.specs.declared.Settings.{Settings}
 use Rattle.links.specs.declared.Slot.{Slot}
+use Rattle.links.specs.declared.StartValues.{StartValues}
 use Rattle.links.specs.declared.Table.{Table}
 use Rattle.links.specs.Settings.{midOk, interfaceOk, settingsRules, sameGround, overlaps}
-use Rattle.links.specs.Slots.{Has, free, inUse, counted, slotAt, any, place, unused, enabledCount}
-use Rattle.links.specs.Calls.{TableCall, enable, disable, setArea, setOwn, slotRules, rules, withSlot, withArea, withOwn, goodDynamic, startOk, startRules, cleared, fresh, plain, begin, start, tableAfter, answer, reply}
+use Rattle.links.specs.Slots.{Has, free, valueSlots, inUse, counted, slotAt, any, place, unused, enabledCount}
+use Rattle.links.specs.Calls.{TableCall, enable, disable, setArea, setOwn, slotRules, rules, withSlot, withArea, withOwn, goodDynamic, startOk, startValues, cleared, fresh, plainStart, begin, start, startByValue, tableAfter, answer, reply}
 use Rattle.links.specs.Reached.{Reached, started, called, ByValue, Apart, Sound}
 use Rattle.links.proofs.Laws.Settings.{ground-sym, overlaps-sym}
 use Rattle.links.proofs.Laws.Search.{any-place}
 use Rattle.links.proofs.Laws.Counted.{enabled-below, slot-of-stop}
 use Rattle.links.proofs.Laws.Slots.{free-has-none, any-none, counted-with, cleared-blank, cleared-length, cleared-rest, count-within}
 use Rattle.links.proofs.Laws.Replaced.{room-with, few-with, rest-with, blank-with, filled, apart-filled, freed}
-use Rattle.links.proofs.Laws.Replies.{settings-numbered, numbered}
+use Rattle.links.proofs.Laws.Replies.{settings-numbered, numbered, start-numbered}
 
-start-ok : (most own max : ℕ) (tvl dgvl : Interface) → refusal (startRules most own max tvl dgvl) ≡ 0 → startOk most own max tvl dgvl ≡ true
-unfolding startRules
-start-ok most own max tvl dgvl e = not-false (startOk most own max tvl dgvl) (done-exactly (startRules most own max tvl dgvl) (lit< tt, tt) .0 e .0)
+start-ok : (most : ℕ) (v : StartValues) → refusal (startValues most v) ≡ 0 → startOk most v ≡ true
+unfolding startValues
+start-ok most v e = not-false (startOk most v) (done-exactly (startValues most v) (start-numbered most v) .0 e .0)
 
 module _ (most : ℕ) (memory : List Slot) where
-  start-sound : (own max : ℕ) (tvl dgvl : Interface) → refusal (startRules most own max tvl dgvl) ≡ 0 → max - 1 ≤ length memory → Sound most memory (fresh memory own max tvl dgvl)
+  start-sound : (v : StartValues) → refusal (startValues most v) ≡ 0 → v .max - 1 ≤ length memory → Sound most memory (fresh memory v)
   unfolding fresh
-  start-sound own max tvl dgvl e h =
-      let g = simp and-eq-true-iff at (start-ok most own max tvl dgvl e) in
+  start-sound v e h =
+      let max = v .max in
+      let g = simp and-eq-true-iff at (start-ok most v e) in
       let run = take (max - 1) (cleared (max - 1) memory) in
       let room : length run ≡ max - 1 = rw (length-take (max - 1) (cleared (max - 1) memory), cleared-length (max - 1) memory) (omega arith) in
       let empty : (k : ℕ) (s : Settings) → Has run k s → ⊥ = λ k s p. free-has-none s (sym (cleared-blank (max - 1) memory k) ∙ p) in
       record {
-        own = ltb-true own (2 ^ 48) (g .0 .0 .0 .0);
+        own = ltb-true (v .own) (2 ^ 48) (g .0 .0 .0 .0);
         least = leb-true 2 max (g .0 .0 .0 .1);
         largest = leb-true max most (g .0 .0 .1);
         tvl = g .0 .1;
@@ -145,16 +146,16 @@ module _ (most : ℕ) (memory : List Slot) where
 
 pub sound : {most : ℕ} {memory : List Slot} {t : Table} → Reached most memory t → Sound most memory t
 unfolding reply
-sound {most} {memory} (started own max tvl dgvl e r) = start-sound most memory own max tvl dgvl e r
+sound {most} {memory} (started v e r) = start-sound most memory v e r
 sound {most} {memory} (called {t = t} h c) = answered most memory (refusal (rules (counted t) c)) t c refl (sound h)
 
 -- the table that a start by value returns, refused or not
-pub start-reached : (own max : ℕ) (tvl dgvl : Interface) → ByValue (start own max tvl dgvl .table)
-unfolding start startRules interfaceOk
-start-reached own max tvl dgvl = go (refusal (startRules 65 own max tvl dgvl)) refl
+pub start-reached : (v : StartValues) → ByValue (startByValue v .table)
+unfolding start startValues interfaceOk
+start-reached v = go (refusal (startValues 65 v)) refl
   where
-    go : (n : ℕ) → refusal (startRules 65 own max tvl dgvl) ≡ n → ByValue (begin n (replicate 64 free) own max tvl dgvl .table)
+    go : (n : ℕ) → refusal (startValues 65 v) ≡ n → ByValue (begin n valueSlots v .table)
     go zero e =
-        let g = simp and-eq-true-iff at (start-ok 65 own max tvl dgvl e) in
-        started own max tvl dgvl e (omega (arith, leb-true max 65 (g .0 .0 .1)))
-    go (suc n) e = started 0 2 plain plain refl (lit≤ tt)
+        let g = simp and-eq-true-iff at (start-ok 65 v e) in
+        started v e (omega (arith, leb-true (v .max) 65 (g .0 .0 .1)))
+    go (suc n) e = started plainStart refl (lit≤ tt)

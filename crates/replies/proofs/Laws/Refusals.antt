@@ -1,8 +1,8 @@
 -- Which number a list of refusals gives: exactly that of the first rule that holds.
 use Prim.Native.Nat.{ℕ, _<_}
 use native.Mathlib.Omega.{arith}
-use mathlib.Core.Path.{_≡_, refl}
-use mathlib.Core.Logic.{inl, inr, _↔_}
+use mathlib.Core.Path.{_≡_, refl, sym, _∙_}
+use mathlib.Core.Logic.{inl, inr, _↔_, _≢_}
 use mathlib.Core.Bool.{Bool, true, false, cond}
 use mathlib.Core.List.{List, [], _∷_, _++_}
 use Rattle.replies.specs.Rules.{Rule, refusal, First, None, Exact}
@@ -74,6 +74,13 @@ exact rs k = record { number = given-exactly rs; done = done-exactly rs k }
 -- what a list of numbered rules answers with 0, the next list decides
 pub refusal-past : (rs more : List Rule) → Numbered rs → refusal rs ≡ 0 → refusal (rs ++ more) ≡ refusal more
 refusal-past rs more k e = refusal-next rs more (done-exactly rs k .0 e)
+
+-- code asks one list and then the next: the first number that is not 0 is given
+pub by-first : (rs more : List Rule) (n : ℕ) → n ≡ refusal rs → n ≢ 0 → n ≡ refusal (rs ++ more)
+by-first rs more n e h = sym (refusal-more rs more n (omega arith) (sym e))
+
+pub by-second : (rs more : List Rule) (n m : ℕ) → Numbered rs → n ≡ refusal rs → n ≡ 0 → m ≡ refusal more → m ≡ refusal (rs ++ more)
+by-second rs more n m k e z f = f ∙ sym (refusal-past rs more k (sym e ∙ z))
 
 pub numbered-append : (rs more : List Rule) → Numbered rs → Numbered more → Numbered (rs ++ more)
 numbered-append [] more h k = k

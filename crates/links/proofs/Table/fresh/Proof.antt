@@ -16,12 +16,12 @@ blank-slot-requires c κs = search needs
 returns : tie.Need-returns
 unfolding fresh
 returns c =
-    let all = ap (λ (x : Slot). replicate 64 x) (c .blank-slot .ensures) ∙ sym (cleared-free (c .before .args .max - 1) 64) in
+    let all = ap (λ (x : Slot). replicate 64 x) (c .blank-slot .ensures) ∙ sym (cleared-free (c .before .before .before .args .v .max - 1) 64) in
     λ i. record {
-      own = c .before .args .own;
-      max = c .before .args .max;
-      tvl = c .before .args .tvl;
-      dgvl = c .before .args .dgvl;
+      own = c .before .before .before .args .v .own;
+      max = c .before .before .before .args .v .max;
+      tvl = c .before .before .before .args .v .tvl;
+      dgvl = c .before .before .before .args .v .dgvl;
       area = Unset;
       slots = all i;
     }
