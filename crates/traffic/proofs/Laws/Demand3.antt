@@ -123,7 +123,7 @@ module _ (t u : Table) (w : Wider t u) where
 
     stays : (j k : ℕ) (r s : Settings) → Has (counted t) j r → Has (counted u) k s → Same r s → Follows t u x buffer (First (stop j r)) (Second (stop k s))
     stays j k r s a b same =
-        let w : frameOrPacket (r .kind) x ≡ frameOrPacket (s .kind) x = ap (λ (n : ℕ). frameOrPacket n x) (same .kind) in
+        let w : frameOrPacket (r .interface .kind) x ≡ frameOrPacket (s .interface .kind) x = ap (λ (f : Interface). frameOrPacket (f .kind) x) (same .interface) in
         stopStays j k r s (on-first j r a) (on-second k s b) same
         (record {
           number = refl;
@@ -150,7 +150,7 @@ module _ (t u : Table) (w : Wider t u) where
     by-source : {e e′ : PerhapsStop} → Compare t u (bySource x) e e′ → Follows t u x buffer (First (failing e dynamic)) (Second (failing e′ dynamic))
     by-source (both j k r s a b same) = stays j k r s a b same
     by-source (new k s b l p) = dynamicMoves k s refl (on-second k s b) l
-    by-source neither = dynamicStays refl (ap (λ (f : Interface). deliverAs (frameOrPacket (f .kind) x) x buffer dynamic) (w .dgvl))
+    by-source neither = dynamicStays refl (ap (λ (f : Interface). deliverAs (frameOrPacket (f .kind) x) x buffer (record { 0 = 1 })) (w .dgvl))
 
     lines : {a a′ d d′ e e′ : PerhapsStop} → Compare t u (byArea x) a a′ → Compare t u (byDestination x) d d′ → Compare t u (bySource x) e e′
         → stopBy (byDestination x) (counted t) ≡ d → stopBy (bySource x) (counted t) ≡ e
@@ -164,7 +164,7 @@ module _ (t u : Table) (w : Wider t u) where
     chosen : (b : Bool) → Follows t u x buffer
         (First (cond b topological (failing (stopBy (byArea x) (counted t)) (failing (stopBy (byDestination x) (counted t)) (failing (stopBy (bySource x) (counted t)) dynamic)))))
         (Second (cond b topological (failing (stopBy (byArea x) (counted u)) (failing (stopBy (byDestination x) (counted u)) (failing (stopBy (bySource x) (counted u)) dynamic)))))
-    chosen true = topologicalStays refl (ap (λ (f : Interface). deliverAs (frameOrPacket (f .kind) x) x buffer topological) (w .tvl))
+    chosen true = topologicalStays refl (ap (λ (f : Interface). deliverAs (frameOrPacket (f .kind) x) x buffer (record { 0 = 0 })) (w .tvl))
     chosen false = lines (compare _ (line-area x)) (compare _ (line-destination x)) (compare _ (line-source x)) refl refl
 
     outcome : (n : ℕ) → Follows t u x buffer (unless n buffer (First (choose (counted t) x))) (unless n buffer (Second (choose (counted u) x)))

@@ -1,5 +1,5 @@
 -- Demands 1 and 2, proved for every call of document 01.
-use Prim.Native.Nat.{ℕ, zero, suc, _+_, _-_}
+use Prim.Native.Nat.{ℕ, zero, suc, _+_, _-_, _≤_}
 use native.Mathlib.Omega.{arith}
 use mathlib.Core.Path.{_≡_, refl, sym, _∙_, ap, subst}
 use mathlib.Core.Logic.{_≢_}
@@ -10,21 +10,24 @@ use lib.ListN.{length, take, drop, length-append, length-drop}
 use lib.Seq.{take-append-seam, drop-append-seam}
 use borrow.Author.Tests.{not-false}
 use Rattle.replies.specs.Rules.{refusal, Exact}
-use Rattle.replies.proofs.Laws.Refusals.{exact, done-exactly}
+use Rattle.replies.proofs.Laws.Refusals.{exact, done-exactly, none-right, refusal-past}
 use Rattle.ipv6.specs.Identifier.{linkLocal}
+use Rattle.links.specs.declared.Named.{Named}
+use Rattle.links.specs.declared.PerhapsLink.{PerhapsLink}
+use Rattle.links.specs.declared.PerhapsLink.the-variants.{Nothing as NoLink}
 use Rattle.links.specs.declared.Settings.{Settings}
 use Rattle.links.specs.declared.Table.{Table}
 use Rattle.links.specs.Slots.{counted}
-use Rattle.links.specs.Index.{enabledAt}
+use Rattle.links.specs.Index.{enabledAt, named}
 use Rattle.links.proofs.Laws.Demands.{table-demand-1, table-demand-2}
 use Rattle.traffic.specs.declared.InterfaceAddress.{InterfaceAddress}
 use Rattle.traffic.specs.declared.Sending.{Sending}
-use Rattle.traffic.specs.Arrives.{Indication, Received, Link, topological, dynamic, PerhapsStop, at, nowhere, stopBy, byArea, byDestination, bySource, failing, choose, kindOf, frameOrPacket, deliver, refuse, unless, indicationRules, receive}
-use Rattle.traffic.specs.Leaves.{Request, requestRules, sending, send, interfaceRules, answerInterface, interface}
-use Rattle.traffic.specs.Demands.{RefusesIndication, RefusesRequest, Demand1, IsLink, Delivers, Sends, Addresses, Demand2}
+use Rattle.traffic.specs.Arrives.{Indication, Received, Link, topological, dynamic, PerhapsStop, at, nowhere, stopBy, byArea, byDestination, bySource, failing, choose, kindOf, indexOf, choiceRules, roomRules, choiceOr, choiceOf, frameOrPacket, deliver, refuse, unless, indicationRules, receive}
+use Rattle.traffic.specs.Leaves.{Request, requestValues, linkRules, requestRules, sending, send, interfaceRules, answerInterface, interfaceOn, interface}
+use Rattle.traffic.specs.Demands.{RefusesIndication, RefusesChoice, RefusesRequest, Demand1, IsLink, Delivers, Foretells, Sends, Addresses, Demand2}
 use Rattle.traffic.proofs.Laws.Stops.{found-at}
-use Rattle.traffic.proofs.Laws.Receive.{indication-numbered, received, room-for}
-use Rattle.traffic.proofs.Laws.Send.{request-numbered, interface-numbered, send-done}
+use Rattle.traffic.proofs.Laws.Receive.{indication-numbered, choice-numbered, received, received-unchosen, room-left, room-enough, room-for}
+use Rattle.traffic.proofs.Laws.Send.{request-numbered, interface-numbered, sending-done}
 
 -- Demand 1
 
@@ -54,35 +57,57 @@ module _ (t : Table) (x : Indication) (buffer : List ℕ) where
         unchanged = λ h. ap (λ (r : Received). r .buffer) (refused-given n h);
       }
 
-module _ (t : Table) (q : Request) where
-  number-sent : (n : ℕ) → sending n t q .number ≡ n
+module _ (t : Table) (x : Indication) where
+  number-chosen : (n : ℕ) (l : PerhapsLink) → choiceOr n l .number ≡ n
+  number-chosen zero l = refl
+  number-chosen (suc n) l = refl
+
+  none-chosen : (n : ℕ) (l : PerhapsLink) → choiceOr n l .number ≢ 0 → choiceOr n l .link ≡ NoLink
+  none-chosen zero l h = absurd (h refl)
+  none-chosen (suc n) l h = refl
+
+  refuses-choice : RefusesChoice t x
+  unfolding choiceOf
+  refuses-choice =
+      let n = refusal (choiceRules x) in
+      let l = indexOf (choose (counted t) x) in
+      record {
+        exact = subst (Exact (choiceRules x)) (sym (number-chosen n l)) (exact (choiceRules x) (choice-numbered x));
+        noLink = none-chosen n l;
+      }
+
+module _ (l : Named) (q : Request) where
+  number-sent : (n : ℕ) → sending n l q .number ≡ n
   number-sent zero = refl
   number-sent (suc n) = refl
 
-  none-sent : (n : ℕ) → sending n t q .number ≢ 0 → sending n t q .length ≡ 0
+  none-sent : (n : ℕ) → sending n l q .number ≢ 0 → sending n l q .length ≡ 0
   none-sent zero h = absurd (h refl)
   none-sent (suc n) h = refl
 
-  refuses-request : RefusesRequest t q
-  unfolding send
-  refuses-request =
-      let n = refusal (requestRules t q) in
-      record {
-        exact = subst (Exact (requestRules t q)) (sym (number-sent n)) (exact (requestRules t q) (request-numbered t q));
-        noLength = none-sent n;
-      }
+refuses-request : (t : Table) (q : Request) → RefusesRequest t q
+unfolding send
+refuses-request t q =
+    let n = refusal (requestRules t q) in
+    let l = named t (q .index) in
+    record {
+      exact = subst (Exact (requestRules t q)) (sym (number-sent l q n)) (exact (requestRules t q) (request-numbered t q));
+      noLength = none-sent l q n;
+    }
 
-number-of-interface : (n : ℕ) (t : Table) → answerInterface n t .number ≡ n
-number-of-interface zero t = refl
-number-of-interface (suc n) t = refl
+number-of-interface : (n own : ℕ) → answerInterface n own .number ≡ n
+number-of-interface zero own = refl
+number-of-interface (suc n) own = refl
 
-refuses-interface : (t : Table) (i : ℕ) → Exact (interfaceRules t i) (interface t i .number)
-unfolding interface
-refuses-interface t i = subst (Exact (interfaceRules t i)) (sym (number-of-interface (refusal (interfaceRules t i)) t)) (exact (interfaceRules t i) (interface-numbered t i))
+refuses-interface : (t : Table) (i : ℕ) → Exact (interfaceRules (enabledAt (counted t) i)) (interface t i .number)
+unfolding interface interfaceOn
+refuses-interface t i =
+    let rules = interfaceRules (enabledAt (counted t) i) in
+    subst (Exact rules) (sym (number-of-interface (refusal rules) (t .own))) (exact rules (interface-numbered (enabledAt (counted t) i)))
 
 pub demand-1 : Demand1
 unfolding Demand1
-demand-1 = (table-demand-1, refuses-indication, refuses-request, refuses-interface)
+demand-1 = (table-demand-1, refuses-indication, refuses-choice, refuses-request, refuses-interface)
 
 -- Demand 2
 
@@ -110,7 +135,7 @@ module _ (t : Table) where
       let done = received t x buffer good in
       let kind = kindOf t (choose (counted t) x) in
       let w = frameOrPacket kind x in
-      let room = room-for x (length buffer) kind good in
+      let room = room-for x (length buffer) kind (room-left x (length buffer) good) in
       record {
         isLink = chosen-link t x;
         link = ap (λ (r : Received). r .reply .link) done;
@@ -128,14 +153,35 @@ module _ (t : Table) where
             ∙ (let left : length w + length (drop (length w) buffer) ≡ length buffer = omega (arith, length-drop (length w) buffer) in left);
       }
 
+  -- with room for a frame, the answer is that of the question for the link
+  foretells : (x : Indication) (buffer : List ℕ) → length (x .packet) + 14 ≤ length buffer → Foretells t x buffer
+  unfolding choiceOf indicationRules
+  foretells x buffer h = go (refusal (choiceRules x)) refl
+    where
+      go : (n : ℕ) → refusal (choiceRules x) ≡ n → Foretells t x buffer
+      go zero e =
+          let done : receive t x buffer ≡ deliver t x buffer (choose (counted t) x) =
+          received t x buffer (refusal-past (choiceRules x) (roomRules x (length buffer)) (choice-numbered x) e ∙ room-enough x (length buffer) h) in
+          record {
+            number = ap (λ (r : Received). r .reply .number) done ∙ ap (λ (n : ℕ). choiceOr n (indexOf (choose (counted t) x)) .number) (sym e);
+            link = ap (λ (r : Received). r .reply .link) done ∙ ap (λ (n : ℕ). choiceOr n (indexOf (choose (counted t) x)) .link) (sym e);
+          }
+      go (suc n) e =
+          let bad = received-unchosen t x buffer (suc n) (sym e) (λ z. omega arith) in
+          record {
+            number = ap (λ (r : Received). r .reply .number) bad ∙ ap (λ (n : ℕ). choiceOr n (indexOf (choose (counted t) x)) .number) (sym e);
+            link = ap (λ (r : Received). r .reply .link) bad ∙ ap (λ (n : ℕ). choiceOr n (indexOf (choose (counted t) x)) .link) (sym e);
+          }
+
   sends : (q : Request) → send t q .number ≡ 0 → Sends t q
-  unfolding send requestRules
+  unfolding send requestRules linkRules
   sends q e =
-      let good : refusal (requestRules t q) ≡ 0 = sym (number-sent t q (refusal (requestRules t q))) ∙ e in
-      let none = done-exactly (requestRules t q) (request-numbered t q) .0 good in
-      let done = send-done t q good in
+      let l = named t (q .index) in
+      let good : refusal (requestRules t q) ≡ 0 = sym (number-sent l q (refusal (requestRules t q))) ∙ e in
+      let none = none-right (requestValues q) (linkRules l q) (done-exactly (requestRules t q) (request-numbered t q) .0 good) in
+      let done = sending-done l q (refusal (requestRules t q)) good in
       record {
-        enabled = not-false (enabledAt (counted t) (q .index)) (none .1 .0);
+        enabled = not-false (enabledAt (counted t) (q .index)) (none .0);
         transport = ap (λ (r : Sending). r .transport) done;
         destination = ap (λ (r : Sending). r .destination) done;
         class = ap (λ (r : Sending). r .class) done;
@@ -143,10 +189,10 @@ module _ (t : Table) where
       }
 
   addresses : (i : ℕ) → interface t i .number ≡ 0 → Addresses t i
-  unfolding interface
+  unfolding interface interfaceOn
   addresses i e =
       let done : interface t i ≡ record { number = 0; mid = t .own; address = linkLocal (t .own) } =
-      ap (λ (n : ℕ). answerInterface n t) (sym (number-of-interface (refusal (interfaceRules t i)) t) ∙ e) in
+      ap (λ (n : ℕ). answerInterface n (t .own)) (sym (number-of-interface (refusal (interfaceRules (enabledAt (counted t) i))) (t .own)) ∙ e) in
       record {
         mid = ap (λ (r : InterfaceAddress). r .mid) done;
         address = ap (λ (r : InterfaceAddress). r .address) done;
@@ -154,4 +200,4 @@ module _ (t : Table) where
 
 pub demand-2 : Demand2
 unfolding Demand2
-demand-2 = (table-demand-2, λ most memory t r. (delivers t, sends t, addresses t))
+demand-2 = (table-demand-2, λ most memory t r. (delivers t, foretells t, sends t, addresses t))

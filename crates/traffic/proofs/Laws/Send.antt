@@ -1,32 +1,55 @@
 -- What a request answers, by the number that its rules give.
 use Prim.Native.Nat.{ℕ, zero, suc, _<_}
 use native.Mathlib.Omega.{arith}
-use mathlib.Core.Path.{_≡_, ap}
+use mathlib.Core.Path.{_≡_, sym, ap}
+use mathlib.Core.Logic.{_≢_}
+use mathlib.Core.Bool.{Bool}
 use lib.Dec.{lit<}
 use lib.ListN.{length}
 use Rattle.replies.specs.Rules.{refusal}
-use Rattle.replies.proofs.Laws.Refusals.{Numbered, numbered-append}
+use Rattle.replies.proofs.Laws.Refusals.{Numbered, numbered-append, by-first, refusal-past}
 use Rattle.ipv6.specs.Packet.{packetRules}
 use Rattle.ipv6.proofs.Laws.Packet.{packet-numbered}
+use Rattle.links.specs.declared.Named.{Named}
 use Rattle.links.specs.declared.Table.{Table}
-use Rattle.traffic.specs.declared.Destination.the-variants.{Nothing}
-use Rattle.traffic.specs.Leaves.{Request, resolveRules, requestRules, down, sending, send, interfaceRules}
+use Rattle.links.specs.Index.{named}
+use Rattle.traffic.specs.Leaves.{Request, requestValues, resolveRules, linkRules, requestRules, down, notSent, sending, send, sendOn, interfaceRules}
+
+pub values-numbered : (q : Request) → Numbered (requestValues q)
+unfolding requestValues
+values-numbered q = (lit< tt, tt)
+
+pub link-numbered : (l : Named) (q : Request) → Numbered (linkRules l q)
+unfolding linkRules resolveRules
+link-numbered l q =
+    (lit< tt, numbered-append (packetRules (q .packet)) (resolveRules l q) (packet-numbered (q .packet)) (lit< tt, (lit< tt, tt)))
 
 pub request-numbered : (t : Table) (q : Request) → Numbered (requestRules t q)
-unfolding requestRules resolveRules
-request-numbered t q =
-    (lit< tt, (lit< tt, numbered-append (packetRules (q .packet)) (resolveRules t q) (packet-numbered (q .packet)) (lit< tt, (lit< tt, tt))))
+unfolding requestRules
+request-numbered t q = numbered-append (requestValues q) (linkRules (named t (q .index)) q) (values-numbered q) (link-numbered (named t (q .index)) q)
 
-pub interface-numbered : (t : Table) (i : ℕ) → Numbered (interfaceRules t i)
+pub interface-numbered : (enabled : Bool) → Numbered (interfaceRules enabled)
 unfolding interfaceRules
-interface-numbered t i = (lit< tt, tt)
+interface-numbered enabled = (lit< tt, tt)
 
-pub send-refused : (t : Table) (q : Request) (n : ℕ) → 0 < n → refusal (requestRules t q) ≡ n → send t q ≡ record { number = n; transport = 0; destination = Nothing; class = 0; length = 0 }
-unfolding send
-send-refused t q zero h e = absurd (omega arith)
-send-refused t q (suc n) h e = ap (λ (m : ℕ). sending m t q) e
+-- what is sent on a link, by the number that the rules give
+pub sending-refused : (l : Named) (q : Request) (m n : ℕ) → 0 < n → m ≡ n → sending m l q ≡ notSent n
+sending-refused l q m zero h e = absurd (omega arith)
+sending-refused l q m (suc n) h e = ap (λ (k : ℕ). sending k l q) e
 
-pub send-done : (t : Table) (q : Request) → refusal (requestRules t q) ≡ 0
-    → send t q ≡ record { number = 0; transport = down t q .transport; destination = down t q .destination; class = q .class; length = length (q .packet) }
-unfolding send
-send-done t q e = ap (λ (m : ℕ). sending m t q) e
+pub sending-done : (l : Named) (q : Request) (m : ℕ) → m ≡ 0
+    → sending m l q ≡ record { number = 0; transport = down l q .transport; destination = down l q .destination; class = q .class; length = length (q .packet) }
+sending-done l q m e = ap (λ (k : ℕ). sending k l q) e
+
+-- where its values are good, a request is sent on the link that its index names, whatever the layout of the table
+pub sent-refused : (t : Table) (q : Request) (n : ℕ) → n ≡ refusal (requestValues q) → n ≢ 0 → send t q ≡ notSent n
+unfolding send requestRules
+sent-refused t q n e h =
+    let l = named t (q .index) in
+    sending-refused l q (refusal (requestRules t q)) n (omega arith) (sym (by-first (requestValues q) (linkRules l q) n e h))
+
+pub sent-on : (t : Table) (q : Request) → refusal (requestValues q) ≡ 0 → send t q ≡ sendOn (named t (q .index)) q
+unfolding send requestRules sendOn
+sent-on t q e =
+    let l = named t (q .index) in
+    ap (λ (m : ℕ). sending m l q) (refusal-past (requestValues q) (linkRules l q) (values-numbered q) e)

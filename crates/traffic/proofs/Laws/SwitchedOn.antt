@@ -22,7 +22,7 @@ use Rattle.traffic.specs.Demand3.{Wider, Demand3, SwitchedOn}
 use Rattle.traffic.proofs.Laws.Demand3.{demand-3}
 
 itself : (x : Settings) → Same x x
-itself x = record { area = same-refl (x .area); prefix = refl; kind = refl; flag = refl }
+itself x = record { area = same-refl (x .area); prefix = refl; interface = refl }
 
 module _ (most : ℕ) (memory : List Slot) (t : Table) (r : Reached most memory t) (s : Settings) where
   abbrev after : Table
