@@ -2,6 +2,7 @@
 pub mod Search
 pub mod Fresh
 pub mod Counted
+pub mod Kinds
 pub mod Replies
 pub mod Slots
 pub mod Settings

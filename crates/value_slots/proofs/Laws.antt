@@ -1,3 +1,2 @@
 -- The laws of slots that other crates cite.
-pub mod Kinds
 pub mod Whole

@@ -15,7 +15,7 @@ use Rattle.value_slots.proofs.find.Statement.{statement}
 use Rattle.value_slots.proofs.find.Tie as tie
 
 abbrev kind-of : Slot → ℕ
-kind-of x = x .settings .kind
+kind-of x = x .settings .interface .kind
 
 abbrev Inv-loop : tie.InvT-loop
 Inv-loop wanted s address t n i₀ i = Looking (passes wanted s address) (counted t) n i
@@ -23,14 +23,16 @@ Inv-loop wanted s address t n i₀ i = Looking (passes wanted s address) (counte
 abbrev μ-loop : tie.MeasureT-loop
 μ-loop wanted s address t n i₀ i = n - i
 
+all : (c : tie.Start Inv-loop μ-loop) → length (c .args .t1 .slots) ≡ 64
+all c = search (length-mapped, needs)
+
 slot-count-requires : tie.Need-slot-count-requires Inv-loop μ-loop
 slot-count-requires c κs = search needs
 
 loop-holds : tie.Need-loop-holds Inv-loop μ-loop
 loop-holds c =
     let args = c .before .before .args in
-    let all : length (args .t1 .slots) ≡ 64 = search (length-mapped, needs) in
-    start (passes (args .wanted) (args .s) (args .address .now)) (counted (args .t1)) (c .slot-count .ensures ∙ sym (counted-length (args .t1) 64 all))
+    start (passes (args .wanted) (args .s) (args .address .now)) (counted (args .t1)) (c .slot-count .ensures ∙ sym (counted-length (args .t1) 64 (all (c .before .before))))
 
 mul-x : tie.Need-mul-x Inv-loop μ-loop
 mul-x c = omega arith
@@ -43,16 +45,16 @@ is-wanted-requires c κs = search needs
 
 returns : tie.Need-returns Inv-loop μ-loop
 returns c =
-    let args = c .before .before .before .before .before .before .before .before .args in
-    let l = c .before .before .before .before .before .loop in
+    let args = c .before .before .before .before .before .before .before .before .before .args in
+    let l = c .before .before .before .before .before .before .loop in
     let q = passes (args .wanted) (args .s) (args .address .now) in
-    let all : length (args .t1 .slots) ≡ 64 = search (length-mapped, needs) in
+    let whole = all (c .before .before .before .before .before .before .before .before .before) in
     let within : l .i < length (counted (args .t1)) = omega arith in
     let here : l .i ≡ place q (counted (args .t1)) =
     hit q (counted (args .t1)) (l .inv) _ (omega arith)
-    (ap q (counted-at (args .t1) (l .i) _ within) ∙ sym (c .before .before .is-wanted .ensures) ∙ c .before .if1 .taken) in
+    (ap q (counted-at (args .t1) (l .i) _ within) ∙ sym (c .before .before .before .is-wanted .ensures) ∙ c .before .before .if1 .taken) in
     found-is (args .t1) _ _ here
-    (ap kind-of (any-default (args .t1 .slots) (l .i) _ free (omega (arith, all)) ∙ sym (counted-at (args .t1) (l .i) free within))
+    (ap kind-of (any-default (args .t1 .slots) (l .i) _ free (omega (arith, whole)) ∙ sym (counted-at (args .t1) (l .i) free within))
     ∙ ap (λ (k : ℕ). kind-of (getD (counted (args .t1)) k free)) here)
 
 add-i : tie.Need-add-i Inv-loop μ-loop

@@ -6,10 +6,9 @@ use borrow.Author.Needs.{needs}
 use Rattle.octets.proofs.Laws.Runs.{length-mapped}
 use Rattle.links.specs.Slots.{free, counted, place}
 use Rattle.links.proofs.Laws.Counted.{counted-length}
+use Rattle.links.proofs.Laws.Kinds.{dynamic-kind, stop-kind, chosen-is}
 use Rattle.links.proofs.Laws.Search.{any-place}
 use Rattle.value_slots.specs.Search.{passes}
-use Rattle.value_slots.proofs.Laws.Whole.{chosen-is}
-use Rattle.value_slots.proofs.Laws.Kinds.{dynamic-kind, stop-kind}
 use Rattle.value_slots.proofs.link_or_dynamic.Statement.{statement}
 use Rattle.value_slots.proofs.link_or_dynamic.Tie as tie
 
@@ -34,7 +33,7 @@ returns c =
     let q = passes (args .wanted) (args .s) (args .address .now) in
     let r = c .before .before .before .before .before .find in
     let place-is : r .result .place ≡ place q (counted (args .t)) = rw (r .ensures) in
-    let kind-is : r .result .kind ≡ getD (counted (args .t)) (r .result .place) free .settings .kind = rw (r .ensures) in
+    let kind-is : r .result .kind ≡ getD (counted (args .t)) (r .result .place) free .settings .interface .kind = rw (r .ensures) in
     chosen-is (args .t) _ _
     (rw (any-place q (counted (args .t)), count (c .before .before .before), ← place-is, lt-ltb _ _ (c .before .if1 .taken)))
     (kind-is ∙ sym (stop-kind (args .t) (r .result .place)))

@@ -17,6 +17,9 @@ blank-slot-requires c κs = search needs
 returns : tie.Need-returns
 returns c = rw (lt-ltb _ _ (c .before .if1 .taken), c .blank-slot .ensures)
 
+sub-k : tie.Need-sub-k
+sub-k c = omega (arith, c .if1 .left)
+
 slot-count-requires : tie.Need-slot-count-requires
 slot-count-requires c κs = search needs
 
@@ -25,7 +28,7 @@ blank-slot-requires-2 c κs = search needs
 
 returns-2 : tie.Need-returns-2
 returns-2 c =
-    let args = c .before .before .before .before .args in
+    let args = c .before .before .before .before .before .args in
     let i = args .index .0 in
     let all : length (args .t1 .slots) ≡ 64 = search (length-mapped, needs) in
     let past : length (counted (args .t1)) ≤ i - 2 = omega (arith, counted-length (args .t1) 64 all) in
@@ -39,7 +42,7 @@ element-copy-out-result c = search needs
 
 returns-3 : tie.Need-returns-3
 returns-3 c =
-    let args = c .before .before .before .before .args in
+    let args = c .before .before .before .before .before .args in
     let i = args .index .0 in
     let all : length (args .t1 .slots) ≡ 64 = search (length-mapped, needs) in
     let within : i - 2 < length (counted (args .t1)) = omega (arith, counted-length (args .t1) 64 all) in
@@ -52,6 +55,7 @@ slot-at-spec =
     (tie.spec
     blank-slot-requires
     returns
+    sub-k
     slot-count-requires
     blank-slot-requires-2
     returns-2

@@ -9,7 +9,7 @@ slot-at-requires c κs = search needs
 
 returns : tie.Need-returns
 unfolding enabledAt
-returns c = rw (c .before .before .slot-at .ensures)
+returns c = rw (c .before .before .before .slot-at .ensures)
 
 pub is-enabled-spec : {M : Type 1} → statement M
 is-enabled-spec = tie.close (tie.spec slot-at-requires returns)

@@ -25,8 +25,8 @@ slot-at-requires c κs = search needs
 returns-3 : tie.Need-returns-3
 unfolding enabledAt interfaceAt areaAt
 returns-3 c =
-    let stop : 2 ≤ c .before .before .before .before .before .before .before .args .index .0 = omega arith in
-    rw (c .before .before .slot-at .ensures, le-ltb _ 2 stop, ne-eqb _ 0 (c .before .before .before .before .before .if1 .left), ne-eqb _ 1 (c .before .before .before .if2 .left))
+    let stop : 2 ≤ c .before .before .before .before .before .before .before .before .args .index .0 = omega arith in
+    rw (c .before .before .before .slot-at .ensures, le-ltb _ 2 stop, ne-eqb _ 0 (c .before .before .before .before .before .before .if1 .left), ne-eqb _ 1 (c .before .before .before .before .if2 .left))
 
 pub link-at-spec : {M : Type 1} → statement M
 link-at-spec = tie.close (tie.spec returns returns-2 slot-at-requires returns-3)
