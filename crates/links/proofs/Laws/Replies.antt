@@ -1,7 +1,8 @@
 -- What a call answers, by the number that its rules give.
 use Prim.Native.Nat.{ℕ, zero, suc, _<_}
 use native.Mathlib.Omega.{arith}
-use mathlib.Core.Path.{_≡_, ap}
+use mathlib.Core.Path.{_≡_, refl, sym, ap}
+use mathlib.Core.Logic.{_≢_}
 use mathlib.Core.List.{List}
 use lib.Dec.{lit<}
 use Rattle.replies.specs.Rules.{refusal}
@@ -13,7 +14,7 @@ use Rattle.links.specs.declared.StartValues.{StartValues}
 use Rattle.links.specs.declared.Table.{Table}
 use Rattle.links.specs.Settings.{settingsValues, groundRules, settingsRules}
 use Rattle.links.specs.Slots.{counted}
-use Rattle.links.specs.Calls.{TableCall, enable, disable, setArea, setOwn, slotRules, rules, linkAfter, tableAfter, answer, reply, startValues}
+use Rattle.links.specs.Calls.{TableCall, enable, disable, setArea, setOwn, slotRules, rules, linkAfter, tableAfter, answer, reply, startValues, plainStart, fresh, begin, start}
 
 pub refused : (t : Table) (c : TableCall) (n : ℕ) → 0 < n → refusal (rules (counted t) c) ≡ n → reply t c ≡ record { number = n; link = Nothing; table = t }
 unfolding reply
@@ -50,6 +51,17 @@ numbered l (setOwn m) = (lit< tt, tt)
 pub start-numbered : (most : ℕ) (v : StartValues) → Numbered (startValues most v)
 unfolding startValues
 start-numbered most v = (lit< tt, tt)
+
+pub start-refused : (most : ℕ) (memory : List Slot) (v : StartValues) (n : ℕ) → n ≡ refusal (startValues most v) → n ≢ 0
+    → start most memory v ≡ record { number = n; link = Nothing; table = fresh memory plainStart }
+unfolding start
+start-refused most memory v zero e h = absurd (h refl)
+start-refused most memory v (suc n) e h = ap (λ (m : ℕ). begin m memory v) (sym e)
+
+pub start-done : (most : ℕ) (memory : List Slot) (v : StartValues) → refusal (startValues most v) ≡ 0
+    → start most memory v ≡ record { number = 0; link = Nothing; table = fresh memory v }
+unfolding start
+start-done most memory v e = ap (λ (m : ℕ). begin m memory v) e
 
 -- an enable: first the settings decide, then the enabled links
 pub by-settings : (l : List Slot) (s : Settings) (n : ℕ) → 0 < n → refusal (settingsRules s) ≡ n → refusal (rules l (enable s)) ≡ n

@@ -2,7 +2,7 @@
 use Prim.Native.Nat.{ℕ, _+_, _-_, _≤_}
 use native.Mathlib.Nat.{add-sub-cancel}
 use native.Mathlib.Omega.{arith}
-use mathlib.Core.Path.{_≡_, refl, _∙_, ap, fun-ext}
+use mathlib.Core.Path.{_≡_, refl, sym, _∙_, ap, fun-ext}
 use mathlib.Core.Bool.{Bool, true, false, cond, _||_, and-false}
 use mathlib.Core.List.{List, [], _∷_}
 use lib.Dec.{eqb}
@@ -15,9 +15,9 @@ use Rattle.links.specs.declared.Slot.{Slot}
 use Rattle.links.specs.declared.Table.{Table}
 use Rattle.links.specs.Settings.{reaches}
 use Rattle.links.specs.Slots.{free, counted, any, place, with}
-use Rattle.links.specs.Index.{interfaceAt}
+use Rattle.links.specs.Index.{interfaceAt, chosen}
 use Rattle.links.proofs.Laws.Counted.{slot-of-stop}
-use Rattle.traffic.specs.Arrives.{Indication, Link, topological, dynamic, stop, PerhapsStop, at, nowhere, stopBy, isArea, byArea, byDestination, bySource, failing, choose, kindOf, indexNumber}
+use Rattle.traffic.specs.Arrives.{Indication, Link, topological, dynamic, stop, PerhapsStop, at, nowhere, stopBy, isArea, byArea, byDestination, bySource, failing, choose, kindOf, indexNumber, chosenFor}
 use Rattle.traffic.proofs.Laws.Stops.{found-at}
 
 -- tests that answer alike find alike
@@ -130,3 +130,7 @@ kind-by-index t x = first (eqb (x .transport) 4)
     first : (b : Bool) → Right (cond b topological (failing (stopBy (byArea x) (counted t)) (failing (stopBy (byDestination x) (counted t)) (failing (stopBy (bySource x) (counted t)) dynamic))))
     first true = refl
     first false = by (byArea x) _ (by (byDestination x) _ (by (bySource x) dynamic refl))
+
+-- so a search that gives a link by its index gives the link that was chosen
+pub chosen-by-index : (t : Table) (x : Indication) → chosen t (indexNumber (choose (counted t) x)) ≡ chosenFor t x
+chosen-by-index t x = ap (λ (k : ℕ). record { index = record { 0 = indexNumber (choose (counted t) x) }; kind = k }) (sym (kind-by-index t x))

@@ -7,15 +7,16 @@ use mathlib.Core.Bool.{Bool, true, false, cond}
 use mathlib.Core.List.{List}
 use lib.Dec.{eqb, lit<}
 use lib.ListN.{length}
-use borrow.Author.Tests.{ltb-false, le-ltb}
+use borrow.Author.Tests.{ltb-false, lt-ltb, le-ltb}
 use Rattle.replies.specs.Rules.{refusal}
 use Rattle.replies.proofs.Laws.Refusals.{Numbered, numbered-append, done-exactly, none-right, by-first, refusal-past}
 use Rattle.ipv6.proofs.Laws.Packet.{packet-numbered}
 use Rattle.frames.specs.Frame.{frame}
 use Rattle.frames.proofs.Laws.Grow.{frame-length}
+use Rattle.links.specs.declared.Chosen.{Chosen}
 use Rattle.links.specs.declared.Table.{Table}
 use Rattle.links.specs.Slots.{counted}
-use Rattle.traffic.specs.Arrives.{Indication, macTo, indicationValues, contentRules, choiceRules, roomRules, indicationRules, choose, chosenFor, frameOrPacket, deliver, refuse, unless, receive, deliverOn}
+use Rattle.traffic.specs.Arrives.{Indication, macTo, indicationValues, contentRules, choiceRules, roomRules, indicationRules, choose, chosenFor, frameOrPacket, deliverAs, deliver, refuse, unless, receive, deliverOn}
 
 pub values-numbered : (x : Indication) → Numbered (indicationValues x)
 unfolding indicationValues
@@ -70,6 +71,17 @@ room-left x room e =
 pub room-enough : (x : Indication) (room : ℕ) → length (x .packet) + 14 ≤ room → refusal (roomRules x room) ≡ 0
 unfolding roomRules
 room-enough x room h = rw (le-ltb room (length (x .packet) + 14) h)
+
+-- a delivery, with too little room and with enough
+module _ (c : Chosen) (x : Indication) (buffer : List ℕ) where
+  pub delivered-short : length buffer < length (x .packet) + 14 → deliverOn c x buffer ≡ refuse 13 buffer
+  unfolding deliverOn roomRules
+  delivered-short h = rw (lt-ltb (length buffer) (length (x .packet) + 14) h)
+
+  pub delivered : length (x .packet) + 14 ≤ length buffer → deliverOn c x buffer ≡ deliverAs (frameOrPacket (c .kind) x) x buffer (c .index)
+  unfolding deliverOn
+  delivered h =
+      ap (λ (n : ℕ). unless n buffer (deliverAs (frameOrPacket (c .kind) x) x buffer (c .index))) (room-enough x (length buffer) h)
 
 -- a frame is 14 bytes longer than its packet, and that much room there is
 pub room-for : (x : Indication) (room kind : ℕ) → refusal (roomRules x room) ≡ 0 → length (frameOrPacket kind x) ≤ room

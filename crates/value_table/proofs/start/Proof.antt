@@ -1,50 +1,50 @@
 -- `value_table::start` meets its contract.
+use mathlib.Core.Path.{sym, _∙_, ap}
 use borrow.Author.Needs.{needs}
-use Rattle.links.specs.Calls.{start, startRules}
+use Rattle.links.specs.declared.PerhapsLink.the-variants.{Nothing}
+use Rattle.links.specs.declared.Table.{Table}
+use Rattle.links.specs.Slots.{valueSlots}
+use Rattle.links.proofs.Laws.Replies.{start-refused, start-done}
 use Rattle.value_table.proofs.start.Statement.{statement}
 use Rattle.value_table.proofs.start.Tie as tie
 
-mid-ok-requires : tie.Need-mid-ok-requires
-mid-ok-requires c κs = search needs
+start-refusal-requires : tie.Need-start-refusal-requires
+start-refusal-requires c κs = search needs
 
-interface-ok-requires : tie.Need-interface-ok-requires
-interface-ok-requires c κs = search needs
-
-interface-ok-requires-2 : tie.Need-interface-ok-requires-2
-interface-ok-requires-2 c κs = search needs
-
-fresh-requires : tie.Need-fresh-requires
-fresh-requires c κs = search needs
+plain-requires : tie.Need-plain-requires
+plain-requires c κs = search needs
 
 without-link-requires : tie.Need-without-link-requires
 without-link-requires c κs = search needs
 
 returns : tie.Need-returns
-unfolding start startRules
 returns c =
-    rw (c .without-link .ensures, c .before .fresh .ensures, ← c .before .before .before .before .before .mid-ok .ensures, ← c .before .before .before .before .interface-ok .ensures, ← c .before .before .before .interface-ok2 .ensures, c .before .before .if1 .taken)
+    let bad = c .before .before .before .start-refusal in
+    c .without-link .ensures
+    ∙ ap (λ (t : Table). record { number = bad .result; link = Nothing; table = t }) (c .before .plain .ensures)
+    ∙ sym (start-refused 65 valueSlots (c .before .before .before .before .args .v) (bad .result) (bad .ensures) (c .before .before .if1 .taken))
 
-fresh-requires-2 : tie.Need-fresh-requires-2
-fresh-requires-2 c κs = search needs
+fresh-requires : tie.Need-fresh-requires
+fresh-requires c κs = search needs
 
 without-link-requires-2 : tie.Need-without-link-requires-2
 without-link-requires-2 c κs = search needs
 
 returns-2 : tie.Need-returns-2
-unfolding start startRules
 returns-2 c =
-    rw (c .without-link2 .ensures, c .before .fresh2 .ensures, ← c .before .before .before .before .before .mid-ok .ensures, ← c .before .before .before .before .interface-ok .ensures, ← c .before .before .before .interface-ok2 .ensures, c .before .before .if1 .left)
+    let bad = c .before .before .before .start-refusal in
+    c .without-link2 .ensures
+    ∙ ap (λ (t : Table). record { number = 0; link = Nothing; table = t }) (c .before .fresh .ensures)
+    ∙ sym (start-done 65 valueSlots (c .before .before .before .before .args .v) (sym (bad .ensures) ∙ c .before .before .if1 .left))
 
 pub start-spec : {M : Type 1} → statement M
 start-spec =
     tie.close
     (tie.spec
-    mid-ok-requires
-    interface-ok-requires
-    interface-ok-requires-2
-    fresh-requires
+    start-refusal-requires
+    plain-requires
     without-link-requires
     returns
-    fresh-requires-2
+    fresh-requires
     without-link-requires-2
     returns-2)

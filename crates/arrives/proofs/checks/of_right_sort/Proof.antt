@@ -1,7 +1,7 @@
--- `arrives::checks::fits` meets its contract.
+-- `arrives::checks::of_right_sort` meets its contract.
 use borrow.Author.Needs.{needs}
-use Rattle.arrives.proofs.checks.fits.Statement.{statement}
-use Rattle.arrives.proofs.checks.fits.Tie as tie
+use Rattle.arrives.proofs.checks.of_right_sort.Statement.{statement}
+use Rattle.arrives.proofs.checks.of_right_sort.Tie as tie
 
 enum-known-d : tie.Need-enum-known-d
 enum-known-d c = search needs
@@ -24,7 +24,7 @@ returns-2 c = rw (c .enum-told .given .1)
 returns-3 : tie.Need-returns-3
 returns-3 c = rw (c .enum-told2 .given .1)
 
-pub fits-spec : {M : Type 1} → statement M
-fits-spec =
+pub of-right-sort-spec : {M : Type 1} → statement M
+of-right-sort-spec =
     tie.close
     (tie.spec enum-known-d mid-ok-requires enum-told enum-told-2 returns returns-2 returns-3)
