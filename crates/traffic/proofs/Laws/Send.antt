@@ -1,19 +1,23 @@
 -- What a request answers, by the number that its rules give.
 use Prim.Native.Nat.{ℕ, zero, suc, _<_}
 use native.Mathlib.Omega.{arith}
-use mathlib.Core.Path.{_≡_, sym, ap}
+use mathlib.Core.Path.{_≡_, sym, _∙_, ap}
 use mathlib.Core.Logic.{_≢_}
-use mathlib.Core.Bool.{Bool}
-use lib.Dec.{lit<}
+use mathlib.Core.Bool.{Bool, true, false, cond, not, _&&_}
+use mathlib.Core.List.{[], _++_}
+use lib.Dec.{eqb, lit<}
 use lib.ListN.{length}
-use Rattle.replies.specs.Rules.{refusal}
-use Rattle.replies.proofs.Laws.Refusals.{Numbered, numbered-append, by-first, refusal-past}
-use Rattle.ipv6.specs.Packet.{packetRules}
+use Rattle.replies.specs.Rules.{_if_, _then_, refusal}
+use Rattle.replies.proofs.Laws.Refusals.{Numbered, numbered-append, refusal-next, by-first, refusal-past}
+use Rattle.ipv6.specs.declared.PerhapsMid.the-variants.{Mid as Known, Nothing as Unknown}
+use Rattle.ipv6.specs.Address.{multicast}
+use Rattle.ipv6.specs.Packet.{destination, packetRules}
 use Rattle.ipv6.proofs.Laws.Packet.{packet-numbered}
 use Rattle.links.specs.declared.Named.{Named}
 use Rattle.links.specs.declared.Table.{Table}
 use Rattle.links.specs.Index.{named}
-use Rattle.traffic.specs.Leaves.{Request, requestValues, resolveRules, linkRules, requestRules, down, notSent, sending, send, sendOn, interfaceRules}
+use Rattle.traffic.specs.declared.Destination.the-variants.{Mid, Nothing}
+use Rattle.traffic.specs.Leaves.{Request, neighbourOf, within, toNeighbour, isUnset, requestValues, resolveRules, linkRules, requestRules, down, notSent, sending, send, sendOn, interfaceRules}
 
 pub values-numbered : (q : Request) → Numbered (requestValues q)
 unfolding requestValues
@@ -40,6 +44,53 @@ sending-refused l q m (suc n) h e = ap (λ (k : ℕ). sending k l q) e
 pub sending-done : (l : Named) (q : Request) (m : ℕ) → m ≡ 0
     → sending m l q ≡ record { number = 0; transport = down l q .transport; destination = down l q .destination; class = q .class; length = length (q .packet) }
 sending-done l q m e = ap (λ (k : ℕ). sending k l q) e
+
+-- a request on a link, step by step
+module _ (l : Named) (q : Request) where
+  pub on-disabled : l .enabled ≡ false → sendOn l q ≡ notSent 7
+  unfolding sendOn linkRules
+  on-disabled e = rw e
+
+  on-enabled : l .enabled ≡ true → refusal (linkRules l q) ≡ refusal (packetRules (q .packet) ++ resolveRules l q)
+  unfolding linkRules
+  on-enabled on = refusal-next (7 if not (l .enabled) then []) (packetRules (q .packet) ++ resolveRules l q) (ap not on, tt)
+
+  pub on-bad-packet : (n : ℕ) → l .enabled ≡ true → n ≡ refusal (packetRules (q .packet)) → n ≢ 0 → sendOn l q ≡ notSent n
+  unfolding sendOn
+  on-bad-packet n on e h =
+      sending-refused l q (refusal (linkRules l q)) n (omega arith) (on-enabled on ∙ sym (by-first (packetRules (q .packet)) (resolveRules l q) n e h))
+
+  pub on-good-packet : l .enabled ≡ true → refusal (packetRules (q .packet)) ≡ 0 → sendOn l q ≡ sending (refusal (resolveRules l q)) l q
+  unfolding sendOn
+  on-good-packet on e =
+      ap (λ (m : ℕ). sending m l q) (on-enabled on ∙ refusal-past (packetRules (q .packet)) (resolveRules l q) (packet-numbered (q .packet)) e)
+
+  module _ (many : multicast (destination (q .packet)) ≡ true) where
+    pub many-without-area : (eqb (q .index) 1 && isUnset (l .area)) ≡ true → sending (refusal (resolveRules l q)) l q ≡ notSent 11
+    unfolding resolveRules
+    many-without-area e = rw (many, e)
+
+    pub many-sent : (eqb (q .index) 1 && isUnset (l .area)) ≡ false → sending (refusal (resolveRules l q)) l q ≡ sending 0 l q
+    unfolding resolveRules
+    many-sent e = rw (many, e)
+
+    pub many-down : down l q ≡ cond (eqb (q .index) 0) (record { transport = 4; destination = Nothing }) (record { transport = 3; destination = within (l .area) })
+    unfolding down
+    many-down = rw many
+
+  module _ (one : multicast (destination (q .packet)) ≡ false) where
+    pub one-unknown : neighbourOf (l .interface) (q .neighbour) (q .packet) ≡ Unknown → sending (refusal (resolveRules l q)) l q ≡ notSent 12
+    unfolding resolveRules
+    one-unknown e = rw (one, e)
+
+    one-down : down l q ≡ record { transport = 1; destination = toNeighbour (neighbourOf (l .interface) (q .neighbour) (q .packet)) }
+    unfolding down
+    one-down = rw one
+
+    pub one-sent : (m : ℕ) → neighbourOf (l .interface) (q .neighbour) (q .packet) ≡ Known m
+        → sending (refusal (resolveRules l q)) l q ≡ record { number = 0; transport = 1; destination = Mid m; class = q .class; length = length (q .packet) }
+    unfolding resolveRules
+    one-sent m e = rw (one, e) (rw (one-down, e))
 
 -- where its values are good, a request is sent on the link that its index names, whatever the layout of the table
 pub sent-refused : (t : Table) (q : Request) (n : ℕ) → n ≡ refusal (requestValues q) → n ≢ 0 → send t q ≡ notSent n
