@@ -10,7 +10,7 @@ use lib.ListN.{length, take, drop, length-append, length-drop}
 use lib.Seq.{take-append-seam, drop-append-seam}
 use borrow.Author.Tests.{not-false}
 use Rattle.replies.specs.Rules.{refusal, Exact}
-use Rattle.replies.proofs.Laws.Refusals.{exact, done-exactly, none-right, refusal-past}
+use Rattle.replies.proofs.Laws.Refusals.{exact, done-exactly, none-right}
 use Rattle.ipv6.specs.Identifier.{linkLocal}
 use Rattle.links.specs.declared.Named.{Named}
 use Rattle.links.specs.declared.PerhapsLink.{PerhapsLink}
@@ -20,13 +20,14 @@ use Rattle.links.specs.declared.Table.{Table}
 use Rattle.links.specs.Slots.{counted}
 use Rattle.links.specs.Index.{enabledAt, named}
 use Rattle.links.proofs.Laws.Demands.{table-demand-1, table-demand-2}
+use Rattle.traffic.specs.declared.Choice.{Choice}
 use Rattle.traffic.specs.declared.InterfaceAddress.{InterfaceAddress}
 use Rattle.traffic.specs.declared.Sending.{Sending}
-use Rattle.traffic.specs.Arrives.{Indication, Received, Link, topological, dynamic, PerhapsStop, at, nowhere, stopBy, byArea, byDestination, bySource, failing, choose, kindOf, indexOf, choiceRules, roomRules, choiceOr, choiceOf, frameOrPacket, deliver, refuse, unless, indicationRules, receive}
+use Rattle.traffic.specs.Arrives.{Indication, Received, Link, topological, dynamic, PerhapsStop, at, nowhere, stopBy, byArea, byDestination, bySource, failing, choose, kindOf, indexOf, chosenFor, choiceRules, choiceOr, choiceOf, frameOrPacket, deliver, refuse, unless, indicationRules, receive}
 use Rattle.traffic.specs.Leaves.{Request, requestValues, linkRules, requestRules, sending, send, interfaceRules, answerInterface, interfaceOn, interface}
 use Rattle.traffic.specs.Demands.{RefusesIndication, RefusesChoice, RefusesRequest, Demand1, IsLink, Delivers, Foretells, Sends, Addresses, Demand2}
 use Rattle.traffic.proofs.Laws.Stops.{found-at}
-use Rattle.traffic.proofs.Laws.Receive.{indication-numbered, choice-numbered, received, received-unchosen, room-left, room-enough, room-for}
+use Rattle.traffic.proofs.Laws.Receive.{indication-numbered, choice-numbered, received, received-unchosen, received-on, delivered, unchosen, chosen-on, room-left, room-for}
 use Rattle.traffic.proofs.Laws.Send.{request-numbered, interface-numbered, sending-done}
 
 -- Demand 1
@@ -155,22 +156,22 @@ module _ (t : Table) where
 
   -- with room for a frame, the answer is that of the question for the link
   foretells : (x : Indication) (buffer : List ℕ) → length (x .packet) + 14 ≤ length buffer → Foretells t x buffer
-  unfolding choiceOf indicationRules
   foretells x buffer h = go (refusal (choiceRules x)) refl
     where
       go : (n : ℕ) → refusal (choiceRules x) ≡ n → Foretells t x buffer
       go zero e =
-          let done : receive t x buffer ≡ deliver t x buffer (choose (counted t) x) =
-          received t x buffer (refusal-past (choiceRules x) (roomRules x (length buffer)) (choice-numbered x) e ∙ room-enough x (length buffer) h) in
+          let done = received-on t x buffer e ∙ delivered (chosenFor t x) x buffer h in
+          let foretold = sym (chosen-on t x e) in
           record {
-            number = ap (λ (r : Received). r .reply .number) done ∙ ap (λ (n : ℕ). choiceOr n (indexOf (choose (counted t) x)) .number) (sym e);
-            link = ap (λ (r : Received). r .reply .link) done ∙ ap (λ (n : ℕ). choiceOr n (indexOf (choose (counted t) x)) .link) (sym e);
+            number = ap (λ (r : Received). r .reply .number) done ∙ ap (λ (r : Choice). r .number) foretold;
+            link = ap (λ (r : Received). r .reply .link) done ∙ ap (λ (r : Choice). r .link) foretold;
           }
       go (suc n) e =
           let bad = received-unchosen t x buffer (suc n) (sym e) (λ z. omega arith) in
+          let foretold = sym (unchosen t x (suc n) (sym e) (λ z. omega arith)) in
           record {
-            number = ap (λ (r : Received). r .reply .number) bad ∙ ap (λ (n : ℕ). choiceOr n (indexOf (choose (counted t) x)) .number) (sym e);
-            link = ap (λ (r : Received). r .reply .link) bad ∙ ap (λ (n : ℕ). choiceOr n (indexOf (choose (counted t) x)) .link) (sym e);
+            number = ap (λ (r : Received). r .reply .number) bad ∙ ap (λ (r : Choice). r .number) foretold;
+            link = ap (λ (r : Received). r .reply .link) bad ∙ ap (λ (r : Choice). r .link) foretold;
           }
 
   sends : (q : Request) → send t q .number ≡ 0 → Sends t q

@@ -1,7 +1,7 @@
 -- What an indication answers, by the number that its rules give; and where it is delivered there is room.
 use Prim.Native.Nat.{ℕ, zero, suc, _+_, _≤_, _<_}
 use native.Mathlib.Omega.{arith}
-use mathlib.Core.Path.{_≡_, sym, ap}
+use mathlib.Core.Path.{_≡_, refl, sym, ap}
 use mathlib.Core.Logic.{_≢_}
 use mathlib.Core.Bool.{Bool, true, false, cond}
 use mathlib.Core.List.{List}
@@ -14,9 +14,10 @@ use Rattle.ipv6.proofs.Laws.Packet.{packet-numbered}
 use Rattle.frames.specs.Frame.{frame}
 use Rattle.frames.proofs.Laws.Grow.{frame-length}
 use Rattle.links.specs.declared.Chosen.{Chosen}
+use Rattle.links.specs.declared.PerhapsLink.the-variants.{Nothing as NoLink}
 use Rattle.links.specs.declared.Table.{Table}
 use Rattle.links.specs.Slots.{counted}
-use Rattle.traffic.specs.Arrives.{Indication, macTo, indicationValues, contentRules, choiceRules, roomRules, indicationRules, choose, chosenFor, frameOrPacket, deliverAs, deliver, refuse, unless, receive, deliverOn}
+use Rattle.traffic.specs.Arrives.{Indication, macTo, indicationValues, contentRules, choiceRules, roomRules, indicationRules, choose, indexOf, chosenFor, choiceOr, choiceOf, frameOrPacket, deliverAs, deliver, refuse, unless, receive, deliverOn}
 
 pub values-numbered : (x : Indication) → Numbered (indicationValues x)
 unfolding indicationValues
@@ -60,6 +61,17 @@ module _ (t : Table) (x : Indication) (buffer : List ℕ) where
   received-on e =
       ap (λ (m : ℕ). unless m buffer (deliver t x buffer (choose (counted t) x)))
       (refusal-past (choiceRules x) (roomRules x (length buffer)) (choice-numbered x) e)
+
+-- the question for the link, by the number that its rules give
+module _ (t : Table) (x : Indication) where
+  pub unchosen : (n : ℕ) → n ≡ refusal (choiceRules x) → n ≢ 0 → choiceOf t x ≡ record { number = n; link = NoLink }
+  unfolding choiceOf
+  unchosen zero e h = absurd (h refl)
+  unchosen (suc n) e h = ap (λ (m : ℕ). choiceOr m (indexOf (choose (counted t) x))) (sym e)
+
+  pub chosen-on : refusal (choiceRules x) ≡ 0 → choiceOf t x ≡ record { number = 0; link = indexOf (choose (counted t) x) }
+  unfolding choiceOf
+  chosen-on e = ap (λ (m : ℕ). choiceOr m (indexOf (choose (counted t) x))) e
 
 -- room is asked last
 pub room-left : (x : Indication) (room : ℕ) → refusal (indicationRules x room) ≡ 0 → refusal (roomRules x room) ≡ 0

@@ -1,4 +1,4 @@
--- `arrives::choice::link_of` meets its contract.
+-- `value_traffic::choice::link_of` meets its contract.
 use Prim.Native.Nat.{ℕ}
 use mathlib.Core.Path.{sym, _∙_, ap}
 use mathlib.Core.List.{List}
@@ -8,18 +8,18 @@ use Rattle.ipv6.specs.Packet.{source, destination}
 use Rattle.links.specs.Settings.{sameGround, reaches}
 use Rattle.links.specs.Slots.{counted}
 use Rattle.traffic.specs.Arrives.{indication, indexNumber}
-use Rattle.traffic.proofs.Laws.Choice.{IndexOr, choose-topological, choose-other, index-unicast, index-area, index-no-area, index-kept, index-failing}
-use Rattle.value_slots.proofs.Laws.Whole.{chosen-is, chosen-index, chosen-kind}
-use Rattle.value_slots.proofs.Laws.Kinds.{topological-kind, dynamic-kind}
-use Rattle.arrives.proofs.choice.link_of.Statement.{statement}
-use Rattle.arrives.proofs.choice.link_of.Tie as tie
+use Rattle.traffic.proofs.Laws.Choice.{IndexOr, choose-topological, choose-other, index-unicast, index-area, index-no-area, index-kept, index-failing, chosen-by-index}
+use Rattle.links.proofs.Laws.Kinds.{topological-kind, dynamic-kind, chosen-is, chosen-index, chosen-kind}
+use Rattle.value_traffic.proofs.choice.link_of.Statement.{statement}
+use Rattle.value_traffic.proofs.choice.link_of.Tie as tie
 
 returns : tie.Need-returns
 returns c =
     let args = c .before .before .before .before .args in
     let l = counted (args .t) in
-    let x = indication (args .transport) 0 0 (args .d) (args .packet .now) in
+    let x = indication (args .h) (args .packet .now) in
     chosen-is (args .t) _ _ (sym (ap indexNumber (choose-topological l x (eq-eqb _ 4 (c .if1 .taken))))) (topological-kind (args .t))
+    ∙ chosen-by-index (args .t) x
 
 blank-slot-requires : tie.Need-blank-slot-requires
 blank-slot-requires c κs = search needs
@@ -32,16 +32,17 @@ link-or-dynamic-requires c κs = search needs
 
 returns-2 : tie.Need-returns-2
 returns-2 c =
-    let args = c .before .before .before .before .before .before .before .before .before .before .before .before .before .args in
+    let args = c .before .before .before .before .before .before .before .before .before .before .before .before .before .before .args in
     let l = counted (args .t) in
-    let x = indication (args .transport) 0 0 (args .d) (args .packet .now) in
-    let r = c .before .before .before .link-or-dynamic in
-    let found = chosen-index (args .t) (r .result) _ (r .ensures) ∙ ap (λ (a : List ℕ). IndexOr (λ s. reaches s a) l 1) (c .before .before .before .before .before .destination-of .ensures) in
+    let x = indication (args .h) (args .packet .now) in
+    let r = c .before .before .before .before .link-or-dynamic in
+    let found = chosen-index (args .t) (r .result) _ (r .ensures) ∙ ap (λ (a : List ℕ). IndexOr (λ s. reaches s a) l 1) (c .before .before .before .before .before .before .destination-of .ensures) in
     chosen-is (args .t) _ _
     (found
     ∙ index-kept (λ s. reaches s (destination (x .packet))) l (IndexOr (λ s. reaches s (source (x .packet))) l 1) (λ e. c .if3 .taken (found ∙ e))
-    ∙ sym (index-unicast l x (c .before .before .before .before .before .before .before .before .if2 .taken)))
+    ∙ sym (index-unicast l x (c .before .before .before .before .before .before .before .before .before .if2 .taken)))
     (chosen-kind (args .t) (r .result) _ (r .ensures))
+    ∙ chosen-by-index (args .t) x
 
 source-of-requires : tie.Need-source-of-requires
 source-of-requires c κs = search needs
@@ -51,25 +52,27 @@ link-or-dynamic-requires-2 c κs = search needs
 
 returns-3 : tie.Need-returns-3
 returns-3 c =
-    let args = c .before .before .before .before .before .before .before .before .before .before .before .before .before .before .args in
+    let args = c .before .before .before .before .before .before .before .before .before .before .before .before .before .before .before .args in
     let l = counted (args .t) in
-    let x = indication (args .transport) 0 0 (args .d) (args .packet .now) in
-    let r = c .before .before .before .before .link-or-dynamic in
-    let found = chosen-index (args .t) (r .result) _ (r .ensures) ∙ ap (λ (a : List ℕ). IndexOr (λ s. reaches s a) l 1) (c .before .before .before .before .before .before .destination-of .ensures) in
+    let x = indication (args .h) (args .packet .now) in
+    let r = c .before .before .before .before .before .link-or-dynamic in
+    let found = chosen-index (args .t) (r .result) _ (r .ensures) ∙ ap (λ (a : List ℕ). IndexOr (λ s. reaches s a) l 1) (c .before .before .before .before .before .before .before .destination-of .ensures) in
     let q = c .link-or-dynamic2 in
     chosen-is (args .t) _ _
     (chosen-index (args .t) (q .result) _ (q .ensures)
-    ∙ ap (λ (a : List ℕ). IndexOr (λ s. reaches s a) l 1) (c .before .before .before .before .before .source-of .ensures)
+    ∙ ap (λ (a : List ℕ). IndexOr (λ s. reaches s a) l 1) (c .before .before .before .before .before .before .source-of .ensures)
     ∙ index-failing (λ s. reaches s (destination (x .packet))) l (IndexOr (λ s. reaches s (source (x .packet))) l 1) (sym found ∙ c .before .if3 .left)
-    ∙ sym (index-unicast l x (c .before .before .before .before .before .before .before .before .before .if2 .taken)))
+    ∙ sym (index-unicast l x (c .before .before .before .before .before .before .before .before .before .before .if2 .taken)))
     (chosen-kind (args .t) (q .result) _ (q .ensures))
+    ∙ chosen-by-index (args .t) x
 
 returns-4 : tie.Need-returns-4
 returns-4 c =
     let args = c .before .before .before .before .before .before .args in
     let l = counted (args .t) in
-    let x = indication (args .transport) 0 0 (args .d) (args .packet .now) in
+    let x = indication (args .h) (args .packet .now) in
     chosen-is (args .t) _ _ (sym (ap indexNumber (choose-other l x (ne-eqb _ 4 (c .before .before .if1 .left)) (ne-eqb _ 1 (c .before .if2 .left)) (not-true _ (c .if4 .taken))))) (dynamic-kind (args .t))
+    ∙ chosen-by-index (args .t) x
 
 enum-known-d : tie.Need-enum-known-d
 enum-known-d c = search needs
@@ -94,26 +97,29 @@ unfolding sameGround
 returns-5 c =
     let args = c .before .before .before .before .before .before .before .before .before .before .before .before .args in
     let l = counted (args .t) in
-    let x = indication (args .transport) 0 0 (args .d) (args .packet .now) in
+    let x = indication (args .h) (args .packet .now) in
     let r = c .link-or-dynamic3 in
     chosen-is (args .t) _ _
     (chosen-index (args .t) (r .result) _ (r .ensures)
     ∙ rw (c .before .before .of-area .ensures) (sym (index-area l x (not-false _ (c .before .before .before .before .before .before .if4 .left)) ∙ rw (c .before .before .before .before .d .given .1))))
     (chosen-kind (args .t) (r .result) _ (r .ensures))
+    ∙ chosen-by-index (args .t) x
 
 returns-6 : tie.Need-returns-6
 returns-6 c =
     let args = c .before .before .before .before .before .before .before .before .args in
     let l = counted (args .t) in
-    let x = indication (args .transport) 0 0 (args .d) (args .packet .now) in
+    let x = indication (args .h) (args .packet .now) in
     chosen-is (args .t) _ _ (sym (index-no-area l x (not-false _ (c .before .before .if4 .left)) (λ b. rw (c .enum-told .given .1)))) (dynamic-kind (args .t))
+    ∙ chosen-by-index (args .t) x
 
 returns-7 : tie.Need-returns-7
 returns-7 c =
     let args = c .before .before .before .before .before .before .before .before .args in
     let l = counted (args .t) in
-    let x = indication (args .transport) 0 0 (args .d) (args .packet .now) in
+    let x = indication (args .h) (args .packet .now) in
     chosen-is (args .t) _ _ (sym (index-no-area l x (not-false _ (c .before .before .if4 .left)) (λ b. rw (c .enum-told2 .given .1)))) (dynamic-kind (args .t))
+    ∙ chosen-by-index (args .t) x
 
 pub link-of-spec : {M : Type 1} → statement M
 link-of-spec =
