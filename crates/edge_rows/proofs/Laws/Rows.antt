@@ -8,9 +8,9 @@ use Rattle.octets.specs.Runs.{same, allZero}
 use Rattle.octets.proofs.Laws.Runs.{same-true}
 use Rattle.area.specs.Area.{goodArea, sameArea}
 use Rattle.prefix.specs.Prefix.{agrees, holdsPrefix, overlap, goodPrefix}
-use Rattle.links.specs.Settings.{interfaceOk, settingsRules, sameGround, overlaps}
+use Rattle.links.specs.Settings.{interfaceOk, settingsValues, groundRules, settingsRules, sameGround, overlaps}
 use Rattle.links.specs.Slots.{any, place}
-use Rattle.links.specs.Calls.{slotRules, rules, linkAfter, tableAfter, reply, startRules, cleared, fresh, start}
+use Rattle.links.specs.Calls.{slotRules, rules, linkAfter, tableAfter, reply, startValues, cleared, fresh, start}
 use Rattle.ipv6.specs.Address.{multicast}
 use Rattle.ipv6.specs.Packet.{malformed, forbidden, packetRules}
 use Rattle.ipv6.specs.Identifier.{flipped, identifier, linkLocal, fromMac, midOfIdentifier, midOf}
@@ -31,5 +31,5 @@ by-test (r ∷ rs) h = step (same (r .got) (r .want)) refl (by-test rs) h
     step false e f h = absurd h
 
 pub edges : Edges
-unfolding Edges rows test same allZero digits number bits goodArea sameArea agrees holdsPrefix overlap goodPrefix interfaceOk settingsRules sameGround overlaps any place slotRules rules linkAfter tableAfter reply startRules cleared fresh start multicast malformed forbidden packetRules flipped identifier linkLocal fromMac midOfIdentifier midOf
+unfolding Edges rows test same allZero digits number bits goodArea sameArea agrees holdsPrefix overlap goodPrefix interfaceOk settingsValues groundRules settingsRules sameGround overlaps any place slotRules rules linkAfter tableAfter reply startValues cleared fresh start multicast malformed forbidden packetRules flipped identifier linkLocal fromMac midOfIdentifier midOf
 edges = by-test rows tt
