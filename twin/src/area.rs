@@ -1,4 +1,4 @@
-//! Areas (document 01, "Virtual links", **Area**).
+//! Areas (docs/RULES.md, "Area").
 
 pub const CIRCLE: u64 = 0;
 pub const RECTANGLE: u64 = 1;
@@ -10,7 +10,8 @@ pub const LONGEST_DISTANCE: u64 = 65_535;
 pub const LARGEST_ANGLE: u64 = 359;
 
 /// The six numbers of an area, wide enough for every number that a day file
-/// can hold: one that fits no narrow type answers 2, never 14 (READINGS 12).
+/// can hold: one that fits no narrow type answers 2, never 14
+/// (`record-too-wide`).
 #[derive(Clone, Copy, Debug, PartialEq, Eq)]
 pub struct Area {
     pub shape: u64,
@@ -22,7 +23,7 @@ pub struct Area {
 }
 
 impl Area {
-    /// "It is good when ..". The bound of a and b is part of it (READINGS 18).
+    /// `area-good`. The upper bound of a and b is part of it.
     pub fn is_good(&self) -> bool {
         let shortest_b = if self.shape == CIRCLE { 0 } else { 1 };
         [CIRCLE, RECTANGLE, ELLIPSE].contains(&self.shape)

@@ -1,4 +1,4 @@
-//! Indications: the choice of a link and the frame (document 01, "What
+//! Indications: the choice of a link and the frame (docs/RULES.md, "What
 //! arrives").
 
 use crate::area::Area;
@@ -24,7 +24,7 @@ pub struct Indication<'a> {
     pub packet: &'a [u8],
 }
 
-/// "The reply gives index, length, source MID and class."
+/// `indication-reply`: index, length, source MID and class.
 #[derive(Clone, Copy, Debug, PartialEq, Eq)]
 pub struct Delivery {
     pub link: u64,
@@ -34,7 +34,8 @@ pub struct Delivery {
 }
 
 impl Table {
-    /// Indication: 1, 2, 9, 8, 10, 13. A refusal leaves the buffer as it was.
+    /// `indication-refusals`: 1, 2, 9, 8, 10, 13. A refusal leaves the buffer as
+    /// it was (`refusal-leaves`).
     pub fn indication(
         &self,
         indication: &Indication,
@@ -43,7 +44,7 @@ impl Table {
         indication.check_values()?;
         indication.check_area()?;
         let addresses = check_packet(indication.packet)?;
-        // Whatever kind will be chosen ("Easy to get wrong", last line).
+        // Whatever kind will be chosen (`slip-kind`).
         if buffer.len() < indication.packet.len() + FRAME_HEADER_LENGTH {
             return Err(Refusal::NoRoom);
         }
@@ -59,7 +60,7 @@ impl Table {
         })
     }
 
-    /// "The link is chosen by the first line that fits."
+    /// `line-first`: the link is that of the first line that fits.
     fn choose_link(&self, indication: &Indication, addresses: &Addresses) -> u64 {
         let fitting_stop = match (indication.transport, indication.destination) {
             (TSB, _) => return table::TVL,
@@ -84,7 +85,7 @@ impl Table {
 
 impl Indication<'_> {
     /// Reply 1: a transport outside 1..4 or a destination of the wrong sort
-    /// (even if its area is not good, READINGS 23), a MID above 2^48 - 1.
+    /// (even if its area is not good), a MID above 2^48 - 1.
     fn check_values(&self) -> Result<(), Refusal> {
         if !self.destination.is_of_the_sort_of(self.transport) {
             return Err(Refusal::ValueOutsideItsList);
@@ -103,7 +104,8 @@ impl Indication<'_> {
         }
     }
 
-    /// An Ethernet frame on a link of kind 1, the packet alone on 2 and 3.
+    /// `frame-kind`: an Ethernet frame on a link of kind 1, the packet alone on 2
+    /// and 3; `frame-bytes`.
     fn frame(&self, kind: Kind) -> Vec<u8> {
         let mut frame = Vec::new();
         if kind == Kind::EthernetLan {

@@ -1,11 +1,11 @@
-//! The calls of the day file (document 01, "The day file").
+//! The calls of the day file (docs/RULES.md, "The day file").
 
 use crate::area::Area;
 use crate::arriving::Indication;
 use crate::leaving::Request;
 use crate::table::{StartSettings, StopSettings};
 
-/// "A destination that is a MID, an area, or nothing."
+/// `destination-sort`: a MID, an area, or nothing.
 #[derive(Clone, Copy, Debug, PartialEq, Eq)]
 pub enum Destination {
     Mid(u64),
@@ -13,14 +13,14 @@ pub enum Destination {
     Nothing,
 }
 
-/// Transports.
+/// `transport-list`.
 pub const GEO_UNICAST: u64 = 1;
 pub const GEO_ANYCAST: u64 = 2;
 pub const GEO_BROADCAST: u64 = 3;
 pub const TSB: u64 = 4;
 
 impl Destination {
-    /// "MID for 1, area for 2 and 3, nothing for 4"; no transport else.
+    /// A MID for 1, an area for 2 and 3, nothing for 4; no transport else.
     pub fn is_of_the_sort_of(&self, transport: u64) -> bool {
         match transport {
             GEO_UNICAST => matches!(self, Destination::Mid(_)),

@@ -176,7 +176,7 @@ fn report_pairs(seen: &Seen, score: &mut Score) {
         score.count(count > 0);
     }
     for (kind, reply) in seen.not_allowed() {
-        println!("{:<16} {reply:>5}  NOT ALLOWED by document 01", name_of_kind(kind));
+        println!("{:<16} {reply:>5}  NOT ALLOWED by the rules", name_of_kind(kind));
         score.count(false);
     }
 }

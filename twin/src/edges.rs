@@ -1,5 +1,5 @@
-//! The cases of document 01's "Cases at the edges" that bear no *: "The rest
-//! run in a program, with an independent second one." This is the second one.
+//! The cases of "Cases at the edges" that bear no *. They run in a program, and
+//! in an independent second one (`edge-stars`): this is the second one.
 
 use crate::area::{Area, RECTANGLE};
 use crate::arriving::Indication;
@@ -56,7 +56,7 @@ fn number_of<T>(outcome: Result<T, Refusal>) -> u8 {
     outcome.map_or_else(Refusal::number, |_| DONE)
 }
 
-/// "Maximum 2 and one stop link: a second with new settings gets 6."
+/// `edge-full`: maximum 2 and one stop link, a second with new settings gets 6.
 fn second_stop_at_maximum_2() -> Case {
     let mut bytes = [0; 16];
     bytes[0] = 0x20;
@@ -73,8 +73,8 @@ fn second_stop_at_maximum_2() -> Case {
     }
 }
 
-/// "Broadcast to a rectangle whose angle alone differs, by one, from the only
-/// stop link's: DGVL."
+/// `edge-angle`: a broadcast to a rectangle whose angle alone differs, by one,
+/// from the only stop link's goes to the DGVL.
 fn broadcast_beside_the_only_stop() -> Case {
     let packet = packet();
     let area = Area { angle: STOP_AREA.angle + 1, ..STOP_AREA };
@@ -97,7 +97,7 @@ fn broadcast_beside_the_only_stop() -> Case {
     }
 }
 
-/// "Buffer of packet + 13: 13, buffer unchanged."
+/// `edge-room`: a buffer of packet + 13 is 13, and stays unchanged.
 fn buffer_of_packet_and_13() -> Case {
     let packet = packet();
     let indication = Indication {

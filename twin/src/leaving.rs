@@ -1,4 +1,4 @@
-//! Requests: what is sent down (document 01, "What leaves").
+//! Requests: what is sent down (docs/RULES.md, "What leaves").
 
 use crate::area::Area;
 use crate::call::{Destination, GEO_BROADCAST, GEO_UNICAST, TSB};
@@ -15,7 +15,7 @@ pub struct Request<'a> {
     pub packet: &'a [u8],
 }
 
-/// "The reply gives transport, destination, class and packet length."
+/// `request-reply`: transport, destination, class and packet length.
 #[derive(Clone, Copy, Debug, PartialEq, Eq)]
 pub struct Sending {
     pub transport: u64,
@@ -25,10 +25,10 @@ pub struct Sending {
 }
 
 impl Table {
-    /// Request: 1, 7, 9, 8, 10, 11, 12.
+    /// `request-refusals`: 1, 7, 9, 8, 10, 11, 12.
     pub fn request(&self, request: &Request) -> Result<Sending, Refusal> {
         if let Some(mid) = request.neighbour {
-            // Even where it would not be used (READINGS 14).
+            // Even where it would not be used.
             check_mid(mid)?;
         }
         let interface = self.interface(request.index)?;
@@ -43,8 +43,8 @@ impl Table {
         Ok(Sending { transport, destination, class: request.class, length })
     }
 
-    /// "TSB without destination on the TVL; GeoBroadcast to the link's area on
-    /// the others"; 11 on the DGVL without an area.
+    /// `multicast-out`: TSB without destination on the TVL, GeoBroadcast to the
+    /// link's area on the others; 11 on the DGVL without an area.
     fn multicast(&self, index: u64) -> Result<(u64, Destination), Refusal> {
         if index == TVL {
             return Ok((TSB, Destination::Nothing));
@@ -62,7 +62,7 @@ impl Table {
     }
 }
 
-/// A derived MID ignores the one given (READINGS 30). "No MID to be had: 12."
+/// `neighbour-mid`: a derived MID ignores the one given; 12 where none is had.
 fn neighbour_mid(derived: bool, to: &Address, given: Option<u64>) -> Result<u64, Refusal> {
     let mid = if derived { mid_of_address(to) } else { given };
     mid.ok_or(Refusal::NeighbourNotResolvable)

@@ -1,5 +1,6 @@
-//! The independent twin: document 01 implemented a second time, from the
-//! documents alone, to be compared byte for byte with the proved `daylist`.
+//! The independent twin: the rules of docs/RULES.md implemented a second time,
+//! with no look at the Rattle code, to be compared byte for byte with the
+//! proved `daylist`. Names such as `line-2` in comments are those of the rules.
 
 pub mod area;
 pub mod arriving;

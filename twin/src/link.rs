@@ -1,4 +1,4 @@
-//! Interface kind and resolve flag of a link (document 01, "Virtual links").
+//! Interface kind and resolve flag of a link (`kind-list`, `flag-list`).
 
 use crate::reply::Refusal;
 
@@ -24,7 +24,7 @@ pub struct Interface {
 }
 
 impl InterfaceNumbers {
-    /// Reply 1 for "a kind or flag outside its list".
+    /// Reply 1 for a kind or flag outside its list.
     pub fn check(self) -> Result<Interface, Refusal> {
         let kind = match self.kind {
             1 => Kind::EthernetLan,
@@ -42,7 +42,7 @@ impl InterfaceNumbers {
 }
 
 impl Interface {
-    /// "On kind 3, or with flag 1, the MID comes from the packet's destination."
+    /// `neighbour-mid`: on kind 3, or with flag 1, from the packet's destination.
     pub fn derives_the_mid(self) -> bool {
         self.kind == Kind::PointToPoint || self.resolve
     }

@@ -1,4 +1,5 @@
-//! MIDs (48 bits) and their modified EUI-64 form (RFC 4291, appendix A).
+//! MIDs (docs/RULES.md, "MID") and their modified EUI-64 form (RFC 4291,
+//! appendix A).
 
 use crate::reply::Refusal;
 
@@ -6,10 +7,10 @@ pub const LARGEST_MID: u64 = (1 << 48) - 1;
 
 /// What stands between the two halves of a MID in an interface identifier.
 const MIDDLE: [u8; 2] = [0xFF, 0xFE];
-/// The universal/local bit, "the bit of value 2 in the first byte".
+/// The universal/local bit, the bit of value 2 in the first byte.
 const FLIPPED_BIT: u8 = 2;
 
-/// Reply 1 for a MID above 2^48 - 1, in each call that bears one.
+/// `mid-range`: reply 1 for a MID above 2^48 - 1, in each call that bears one.
 pub fn check_mid(mid: u64) -> Result<(), Refusal> {
     if mid > LARGEST_MID {
         return Err(Refusal::ValueOutsideItsList);
@@ -17,7 +18,7 @@ pub fn check_mid(mid: u64) -> Result<(), Refusal> {
     Ok(())
 }
 
-/// The six bytes of a MAC address, highest first (MIDs are big-endian numbers).
+/// `mid-number`: the six bytes of a MAC address, highest first.
 pub fn mac_bytes(mid: u64) -> [u8; 6] {
     let eight = mid.to_be_bytes();
     [eight[2], eight[3], eight[4], eight[5], eight[6], eight[7]]
@@ -27,7 +28,7 @@ fn from_mac_bytes(mac: [u8; 6]) -> u64 {
     mac.iter().fold(0, |mid, &byte| mid * 256 + u64::from(byte))
 }
 
-/// The address fe80::/64 with the identifier built from the MID.
+/// `interface-address`: fe80::/64 with the identifier built from the MID.
 pub fn link_local_address(mid: u64) -> [u8; 16] {
     let mac = mac_bytes(mid);
     let mut address = [0; 16];
@@ -40,7 +41,8 @@ pub fn link_local_address(mid: u64) -> [u8; 16] {
     address
 }
 
-/// The MID in an address's last 8 bytes, if FF FE are their 4th and 5th.
+/// `mid-from-address`: the MID in an address's last 8 bytes, if FF FE are their
+/// 4th and 5th.
 pub fn mid_of_address(address: &[u8; 16]) -> Option<u64> {
     let identifier = &address[8..16];
     if identifier[3..5] != MIDDLE {
@@ -67,7 +69,7 @@ mod tests {
     }
 
     #[test]
-    fn the_edge_case_of_document_01() {
+    fn the_edge_case_of_an_own_mid() {
         let mut expected = [0; 16];
         expected[..2].copy_from_slice(&[0xFE, 0x80]);
         expected[8..].copy_from_slice(&[0, 0, 0, 0xFF, 0xFE, 0, 0, 1]);

@@ -1,4 +1,4 @@
-//! The IPv6 packet as far as document 01 looks into it: replies 9, 8 and 10.
+//! The IPv6 packet as far as the rules look into it: replies 9, 8 and 10.
 
 use crate::reply::Refusal;
 
@@ -17,12 +17,12 @@ pub struct Addresses {
     pub destination: Address,
 }
 
-/// "Destination multicast (first byte FF)."
+/// `multicast-out`: the first byte is FF.
 pub fn is_multicast(address: &Address) -> bool {
     address[0] == 0xFF
 }
 
-/// The part "9, 8, 10" that the orders of indication and request share.
+/// `packet-refusals`: the part that the orders of indication and request share.
 pub fn check_packet(packet: &[u8]) -> Result<Addresses, Refusal> {
     if packet.len() > LONGEST_PACKET {
         return Err(Refusal::PacketAbove1280);
@@ -56,7 +56,7 @@ fn address_at(packet: &[u8], place: usize) -> Address {
 
 impl Addresses {
     /// Reply 10 forbids a multicast or ::1 source and a :: or ::1 destination.
-    /// A source :: is allowed (READINGS 26).
+    /// A source :: is allowed.
     fn are_allowed(&self) -> bool {
         !is_multicast(&self.source)
             && self.source != LOOPBACK

@@ -1,5 +1,5 @@
 //! Which pairs of record kind and reply number a listing can hold, worked out
-//! from document 01, and the count of those that were seen.
+//! from the rules, and the count of those that were seen.
 
 use std::collections::BTreeMap;
 
@@ -10,16 +10,13 @@ pub type Pair = (RecordKind, u8);
 
 /// The replies of each record kind.
 ///
-/// Rules: "Each is given exactly under its condition, first match wins. Enable:
-/// 1, 2, 3, 4, 5, 6. Disable: 15, 7. Indication: 1, 2, 9, 8, 10, 13. Request: 1,
-/// 7, 9, 8, 10, 11, 12" and the column "Given by" of the table of replies (start
-/// and own MID: 1; DGVL area: 2), all in "Replies". Besides, "For each record 14
-/// is tested first, then 16, then the call's own refusals" ("The day file"):
-/// each kind has a number that can be cut (14), can stand before the start, or
-/// is a second start (16), and can be done (0).
+/// The call's own refusals are those of `reply-first`, in its table of orders.
+/// Besides, `record-order` tests 14 first, then 16: each kind has a number that
+/// can be cut (14), can stand before the start, or is a second start (16), and
+/// can be done (0).
 ///
 /// Not among them: 13, since 9 comes before it and 1,294 is 1,280 + 14
-/// (READINGS 8). In an indication 1 is left for its MIDs only, since a
+/// (`listing-lent`). In an indication 1 is left for its MIDs only, since a
 /// transport outside 1..4 is broken and the sort follows from the transport.
 const REPLIES_OF_KIND: [(u64, &[u8]); 7] = [
     (kind::START, &[0, 1, 14, 16]),
@@ -31,9 +28,8 @@ const REPLIES_OF_KIND: [(u64, &[u8]); 7] = [
     (kind::REQUEST, &[0, 1, 7, 8, 9, 10, 11, 12, 14, 16]),
 ];
 
-/// A first number outside 1..7, or one that is no number, can only be broken:
-/// "Broken (14): a record kind outside 1..7, a number overlong, above 2^64 - 1
-/// or cut" ("The day file").
+/// A first number outside 1..7, or one that is no number (overlong, above
+/// 2^64 - 1 or cut), can only be broken (`record-broken`).
 const ONLY_BROKEN: [RecordKind; 2] = [RecordKind::Unknown, RecordKind::Unreadable];
 
 pub fn allowed_pairs() -> Vec<Pair> {
@@ -78,7 +74,7 @@ impl Seen {
         self.0.values().sum()
     }
 
-    /// Pairs that document 01 allows in no listing: the twin itself would err.
+    /// Pairs that the rules allow in no listing: the twin itself would err.
     pub fn not_allowed(&self) -> Vec<Pair> {
         let allowed = allowed_pairs();
         self.0.keys().copied().filter(|pair| !allowed.contains(pair)).collect()

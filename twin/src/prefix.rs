@@ -1,18 +1,18 @@
-//! Prefixes (document 01, "Virtual links", **Prefix**).
+//! Prefixes (docs/RULES.md, "Prefix").
 
 pub const LONGEST_PREFIX: u64 = 128;
 
-/// A length and 16 bytes as a caller gives them, good or bad.
+/// `prefix-form`: a length and 16 bytes as a caller gives them, good or bad.
 #[derive(Clone, Copy, Debug, PartialEq, Eq)]
 pub struct Prefix {
     pub length: u64,
     pub bytes: [u8; 16],
 }
 
-/// Length 0 means none.
+/// `prefix-none`: length 0 means none.
 pub const NO_PREFIX: Prefix = Prefix { length: 0, bytes: [0; 16] };
 
-/// fe80::/10 and ff00::/8, which no good prefix overlaps.
+/// `prefix-reserved`: fe80::/10 and ff00::/8, which no good prefix overlaps.
 const LINK_LOCAL: Prefix = starting_with(0xFE, 0x80, 10);
 const MULTICAST: Prefix = starting_with(0xFF, 0x00, 8);
 
@@ -24,6 +24,7 @@ const fn starting_with(first: u8, second: u8, length: u64) -> Prefix {
 }
 
 impl Prefix {
+    /// `prefix-good`.
     pub fn is_good(&self) -> bool {
         self.length <= LONGEST_PREFIX
             && !self.has_bit_past_length()
@@ -31,7 +32,7 @@ impl Prefix {
             && !self.overlaps(&MULTICAST)
     }
 
-    /// Length 0 holds nothing.
+    /// `prefix-holds`; length 0 holds nothing (`prefix-none`).
     pub fn holds_address(&self, address: &[u8; 16]) -> bool {
         self.length > 0 && equal_first_bits(&self.bytes, address, self.length)
     }
@@ -40,7 +41,7 @@ impl Prefix {
         other.length >= self.length && self.holds_address(&other.bytes)
     }
 
-    /// "When both have a length above 0 and one holds the other."
+    /// `prefix-overlap`: both have a length above 0, and one holds the other.
     pub fn overlaps(&self, other: &Prefix) -> bool {
         self.length > 0
             && other.length > 0
@@ -52,7 +53,7 @@ impl Prefix {
     }
 }
 
-/// How many bytes a record holds of a prefix of this length.
+/// How many bytes a record holds of a prefix of this length (`record-prefix`).
 pub fn bytes_needed(length: u64) -> usize {
     length.div_ceil(8) as usize
 }
@@ -122,7 +123,7 @@ mod tests {
     }
 
     #[test]
-    fn the_bad_ones_of_reading_22() {
+    fn bad_inside_and_around_the_reserved_blocks() {
         for (first, second, length) in [
             (0x80, 0, 1),
             (0xC0, 0, 2),
@@ -144,7 +145,7 @@ mod tests {
     }
 
     #[test]
-    fn the_good_ones_of_reading_22() {
+    fn good_near_the_reserved_blocks() {
         for (first, second, length) in [
             (0, 0, 1),
             (0x80, 0, 2),

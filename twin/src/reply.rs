@@ -1,9 +1,9 @@
-//! The reply numbers of document 01, section "Replies".
+//! The reply numbers (docs/RULES.md, "Replies").
 
 /// Reply 0, "done". It is no refusal, so it stands apart from [`Refusal`].
 pub const DONE: u8 = 0;
 
-/// Every reply but 0. The value of each case is document 01's number.
+/// Every reply but 0. The value of each case is the number of the rules.
 #[derive(Clone, Copy, Debug, PartialEq, Eq)]
 pub enum Refusal {
     /// A MID above 2^48 - 1, a maximum outside 2..65, a transport outside

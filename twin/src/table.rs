@@ -1,5 +1,5 @@
-//! The virtual-link table and the calls that change it (document 01,
-//! "Virtual links"; the order of refusals is that of "Replies").
+//! The virtual-link table and the calls that change it (docs/RULES.md, "Virtual
+//! links" and "The calls on the table").
 
 use std::collections::BTreeMap;
 
@@ -10,7 +10,7 @@ use crate::packet::Address;
 use crate::prefix::Prefix;
 use crate::reply::Refusal;
 
-/// "The two fixed links bear index 0 and 1 always."
+/// `link-fixed`.
 pub const TVL: u64 = 0;
 pub const DGVL: u64 = 1;
 pub const FIRST_STOP: u64 = 2;
@@ -62,8 +62,8 @@ pub struct Table {
 }
 
 impl Table {
-    /// A refused start returns its number and the table for own MID 0,
-    /// maximum 2, fixed links of kind 1 and flag 1.
+    /// `start-refused`: a refused start returns its number and the table for own
+    /// MID 0, maximum 2, fixed links of kind 1 and flag 1.
     pub fn start(settings: &StartSettings) -> (Result<(), Refusal>, Table) {
         match Table::try_start(settings) {
             Ok(table) => (Ok(()), table),
@@ -89,7 +89,7 @@ impl Table {
         Table { own_mid, maximum, tvl, dgvl, dgvl_area: None, stops: BTreeMap::new() }
     }
 
-    /// Enable: 1, 2, 3, 4, 5, 6. The answer is the new link's index.
+    /// `enable-refusals`: 1, 2, 3, 4, 5, 6. The answer is the new link's index.
     pub fn enable(&mut self, settings: &StopSettings) -> Result<u64, Refusal> {
         let interface = settings.interface.check()?;
         if !settings.area.is_good() {
@@ -98,7 +98,7 @@ impl Table {
         if !settings.prefix.is_good() {
             return Err(Refusal::PrefixNotGood);
         }
-        // Only enabled stop links are asked, not the DGVL (READINGS 20).
+        // Only enabled stop links are asked, not the DGVL (`link-apart`).
         if self.stops.values().any(|stop| stop.area == settings.area) {
             return Err(Refusal::AreaEqualToAStops);
         }
@@ -115,7 +115,7 @@ impl Table {
         (FIRST_STOP..=self.maximum).find(|index| !self.stops.contains_key(index))
     }
 
-    /// Disable: 15, 7.
+    /// `disable-refusals`: 15, 7.
     pub fn disable(&mut self, index: u64) -> Result<(), Refusal> {
         if index == TVL || index == DGVL {
             return Err(Refusal::IndexOfFixedLink);
@@ -126,7 +126,7 @@ impl Table {
         }
     }
 
-    /// "The DGVL's area may be set, changed or cleared": 2.
+    /// `dgvl-area`: it may be set, changed or cleared. Refusal: 2.
     pub fn set_dgvl_area(&mut self, area: Option<Area>) -> Result<(), Refusal> {
         if area.is_some_and(|area| !area.is_good()) {
             return Err(Refusal::AreaNotGood);
@@ -135,14 +135,15 @@ impl Table {
         Ok(())
     }
 
-    /// Changes the MAC address of every interface "and nothing else": 1.
+    /// `mid-own`: changes the MAC address of every interface and nothing else.
+    /// Refusal: 1.
     pub fn set_own_mid(&mut self, mid: u64) -> Result<(), Refusal> {
         check_mid(mid)?;
         self.own_mid = mid;
         Ok(())
     }
 
-    /// The kind and flag of an enabled link; 0 and 1 always are (READINGS 28).
+    /// The kind and flag of an enabled link; 0 and 1 always are (`link-fixed`).
     pub fn interface(&self, index: u64) -> Result<Interface, Refusal> {
         match index {
             TVL => Ok(self.tvl),
@@ -154,7 +155,8 @@ impl Table {
         }
     }
 
-    /// "Own MID and fe80::/64 with the identifier built the other way": 7.
+    /// `interface-address`: own MID and fe80::/64 with the identifier built from
+    /// it. Refusal: 7.
     pub fn interface_address(&self, index: u64) -> Result<InterfaceAddress, Refusal> {
         self.interface(index)?;
         let address = link_local_address(self.own_mid);

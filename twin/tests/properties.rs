@@ -68,7 +68,7 @@ fn refusals_change_nothing() {
 }
 
 #[test]
-fn tables_keep_what_document_01_says_of_them() {
+fn tables_keep_what_the_rules_say_of_them() {
     for number in 0..40 {
         let bytes = day_file(14, number);
         let mut replay = Replay::default();

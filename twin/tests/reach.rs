@@ -114,7 +114,7 @@ fn wanted() -> Vec<String> {
 }
 
 #[test]
-fn the_files_reach_the_situations_of_document_01() {
+fn the_files_reach_the_situations_of_the_rules() {
     let situations = situations();
     let missing: Vec<String> =
         wanted().into_iter().filter(|one| !situations.0.contains_key(one)).collect();

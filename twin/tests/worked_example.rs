@@ -1,4 +1,4 @@
-//! The worked example of document 01, "The day file".
+//! The worked example of docs/RULES.md, `listing-example`.
 
 use twin::listing::listing;
 
@@ -33,7 +33,7 @@ fn example() -> Vec<u8> {
 }
 
 #[test]
-fn it_prints_what_document_01_prints() {
+fn it_prints_what_the_rules_print() {
     assert_eq!(listing(&example()), PRINTED);
 }
 

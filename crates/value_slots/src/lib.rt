@@ -68,10 +68,10 @@ fn find(t: Table, wanted: Wanted, s: Settings, address: &[u8]) -> Found
         let x = t.slots[i];
         if is_wanted(x, wanted, s, address) {
             let r = x.settings;
-            let f = r.interface;
+            let interface = r.interface;
             return Found {
                 place: i,
-                kind: f.kind,
+                kind: interface.kind,
             };
         }
         i += 1;

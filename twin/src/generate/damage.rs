@@ -1,5 +1,5 @@
 //! Days with one broken record among whole ones, broken at every kind of place
-//! that document 01 names ("Broken (14): ..").
+//! that `record-broken` names.
 
 use super::day::Day;
 use super::random::Random;

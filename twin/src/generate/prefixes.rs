@@ -68,7 +68,7 @@ pub fn related(random: &mut Random, to: &Prefix) -> Prefix {
 }
 
 /// Every prefix length's neighbourhood of fe80::/10 and ff00::/8, both ways
-/// (READINGS 22), good and bad ones.
+/// (`prefix-reserved`), good and bad ones.
 pub fn around_the_forbidden(random: &mut Random) -> Prefix {
     let start = random.pick(&[
         [0xFE, 0x80],

@@ -1,4 +1,4 @@
-//! Days of whole records, each with a theme of document 01.
+//! Days of whole records, each with a theme of the rules.
 
 use super::day::{Day, Weights};
 use super::packets;

@@ -1,7 +1,7 @@
 use super::*;
 use crate::numbers::number_bytes;
 
-/// The area of document 01's worked example.
+/// The area of the worked example, `listing-example`.
 const AREA_BYTES: [u8; 14] =
     [0, 0x80, 0xD2, 0x93, 0xAD, 0x03, 0x80, 0xA4, 0xA7, 0xDA, 0x06, 0xF4, 0x03, 0];
 
