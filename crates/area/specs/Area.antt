@@ -1,4 +1,4 @@
--- Document 01, Area: which areas are good, and which two are the same.
+-- RULES, Area: which areas are good, and which two are the same.
 use mathlib.Core.Bool.{Bool, false, _&&_, _||_}
 use lib.IntN.{ℤ, pos, negsuc, negℤ}
 use lib.Dec.{eqb, leb}
@@ -12,7 +12,7 @@ eqZ (pos m) (negsuc n) = false
 eqZ (negsuc m) (pos n) = false
 eqZ (negsuc m) (negsuc n) = eqb m n
 
--- shape 0, 1 or 2; latitude, longitude and angle within their bounds; a at least 1, and b too for shapes 1 and 2
+-- area-good: shape 0, 1 or 2; latitude, longitude and angle within their bounds; a at least 1, and b too for shapes 1 and 2
 unfoldable pub goodArea : Area → Bool
 goodArea x =
     leb (x .shape) 2
@@ -24,7 +24,7 @@ goodArea x =
     && leb 1 (x .a)
     && (eqb (x .shape) 0 || leb 1 (x .b))
 
--- all six numbers are equal
+-- area-equal: all six numbers are equal
 unfoldable pub sameArea : Area → Area → Bool
 sameArea x y =
     eqb (x .shape) (y .shape)

@@ -1,4 +1,4 @@
-// Document 01, Area: a circle, rectangle or ellipse on the map, when it is good, and when two are equal.
+// RULES, Area: a circle, rectangle or ellipse on the map, when it is good, and when two are equal.
 ghost use mathlib.Core.Path.{_≡_};
 ghost use Rattle.area.specs.Area.{goodArea, sameArea};
 

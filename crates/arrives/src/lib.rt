@@ -1,4 +1,4 @@
-// Document 01, What arrives: the half of an indication that knows no layout of the table. What refuses it sees no table, and
+// RULES, What arrives: the half of an indication that knows no layout of the table. What refuses it sees no table, and
 // what is delivered needs of the link that was chosen no more than its index and its kind.
 mod checks;
 

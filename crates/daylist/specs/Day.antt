@@ -1,4 +1,4 @@
--- Document 01, The day file: the records of a day one behind the other, each applied to the box that the one before it left, and
+-- RULES, The day file: the records of a day one behind the other, each applied to the box that the one before it left, and
 -- each lent 1,294 bytes. A broken record ends the day.
 use Prim.Native.Nat.{ℕ, zero, suc}
 use mathlib.Core.Bool.{Bool, true, false, cond}

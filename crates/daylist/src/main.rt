@@ -1,4 +1,4 @@
-// Document 01, The day file: prints a header and one line per record of the day file on standard input, up to 65,536 bytes.
+// RULES, The day file: prints a header and one line per record of the day file on standard input, up to 65,536 bytes.
 use libc::STDIN_FILENO;
 use libc::STDOUT_FILENO;
 use links::PerhapsLink;

@@ -1,4 +1,4 @@
--- Document 01, Cases at the edges: those marked * as rows of one list, under the single statement `Edges`.
+-- RULES, Cases at the edges: those marked * as rows of one list, under the single statement `Edges`.
 use Prim.Native.Nat.{ℕ, _-_}
 use mathlib.Core.Path.{_≡_}
 use mathlib.Core.Bool.{Bool, true, false}
@@ -83,23 +83,23 @@ stop n = record {
 
 unfoldable pub rows : List Row
 rows =
-    -- maximum 1 refused, 2 good, 65 good, 66 refused
+    -- edge-maximum: 1 refused, 2 good, 65 good, 66 refused
     (startWith 1 .number is 1)
     ∷ (startWith 2 .number is 0)
     ∷ (startWith 65 .number is 0)
     ∷ (startWith 66 .number is 1)
-    -- links 2, 3, 4 enabled, 3 disabled: the next enabled gets 3
+    -- edge-index: links 2, 3, 4 enabled, 3 disabled: the next enabled gets 3
     ∷ (given (startWith 65 .table) (enable (stop 1) ∷ enable (stop 2) ∷ enable (stop 3) ∷ disable 3 ∷ enable (stop 4) ∷ [])
     are (2 ∷ 3 ∷ 4 ∷ 0 ∷ 3 ∷ []))
-    -- own MID 02:00:00:00:00:01 gives fe80::ff:fe00:1, and back
+    -- edge-address: own MID 02:00:00:00:00:01 gives fe80::ff:fe00:1, and back
     ∷ (linkLocal 0x020000000001 are (0xfe ∷ 0x80 ∷ replicate 9 0 ++ 0xff ∷ 0xfe ∷ 0 ∷ 0 ∷ 1 ∷ []))
     ∷ (midOrZero (midOf (linkLocal 0x020000000001)) is 0x020000000001)
-    -- angle 359 good, 360 not; ellipse with b = 0 not, circle with b = 0 good
+    -- edge-area: angle 359 good, 360 not; ellipse with b = 0 not, circle with b = 0 good
     ∷ (says (goodArea (shaped 1 1 359)) is 1)
     ∷ (says (goodArea (shaped 1 1 360)) is 0)
     ∷ (says (goodArea (shaped 2 0 0)) is 0)
     ∷ (says (goodArea (shaped 0 0 0)) is 1)
-    -- a packet of 39, 40, 1,280 and 1,281 bytes: 8, good, good, 9
+    -- edge-packet: 39, 40, 1,280 and 1,281 bytes: 8, good, good, 9
     ∷ (refusal (packetRules (packet 39)) is 8)
     ∷ (refusal (packetRules (packet 40)) is 0)
     ∷ (refusal (packetRules (packet 1280)) is 0)

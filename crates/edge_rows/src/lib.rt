@@ -1,1 +1,1 @@
-// Document 01, Cases at the edges: those marked * are proved of the definitions. The rows stand in specs/Rows.antt; there is no code.
+// RULES, Cases at the edges: those marked * are proved of the definitions. The rows stand in specs/Rows.antt; there is no code.

@@ -1,4 +1,4 @@
-// Document 01, Cases at the edges: those not marked *, each printed with what is expected and what came. The twin prints the
+// RULES, Cases at the edges: those not marked *, each printed with what is expected and what came. The twin prints the
 // same lines from its own code.
 use area::Area;
 use libc::STDOUT_FILENO;

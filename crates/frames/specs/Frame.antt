@@ -1,4 +1,4 @@
--- Document 01, What arrives: an Ethernet frame, and a lent buffer after something is written at its front.
+-- RULES, What arrives: an Ethernet frame, and a lent buffer after something is written at its front.
 use Prim.Native.Nat.{ℕ}
 use mathlib.Core.Bool.{cond}
 use mathlib.Core.List.{List, _∷_, _++_}
@@ -6,11 +6,11 @@ use lib.Dec.{ltb}
 use lib.ListN.{length, drop}
 use Rattle.octets.specs.Digits.{mac}
 
--- destination MAC, source MAC, 86 DD, the packet unchanged
+-- frame-bytes: destination MAC, source MAC, 86 DD, the packet unchanged
 unfoldable pub frame : ℕ → ℕ → List ℕ → List ℕ
 frame to from packet = mac to ++ mac from ++ 0x86 ∷ 0xdd ∷ packet
 
--- what is written, then the bytes as they were; without room for all of it nothing is written
+-- buffer-rest: what is written, then the bytes as they were; without room for all of it nothing is written
 unfoldable pub put : List ℕ → List ℕ → List ℕ
 put w buffer = cond (ltb (length buffer) (length w)) buffer (w ++ drop (length w) buffer)
 

@@ -1,4 +1,4 @@
-// Document 01, What arrives: an Ethernet frame or a packet alone, written at the front of a lent buffer.
+// RULES, What arrives: an Ethernet frame or a packet alone, written at the front of a lent buffer.
 ghost use mathlib.Core.Path.{_≡_};
 ghost use Rattle.frames.specs.Frame.{frame, put, putLength};
 

@@ -1,4 +1,4 @@
--- RFC 4291: the addresses that document 01 names, each of 16 bytes.
+-- RFC 4291: the addresses that the rules name, each of 16 bytes.
 use Prim.Native.Nat.{ℕ}
 use mathlib.Core.Bool.{Bool}
 use mathlib.Core.List.{List, [], _∷_, _++_}

@@ -20,7 +20,7 @@ firstFlipped (b ∷ bs) = flipped b ∷ bs
 unfoldable pub identifier : ℕ → List ℕ
 identifier m = firstFlipped (take 3 (mac m) ++ 0xff ∷ 0xfe ∷ drop 3 (mac m))
 
--- fe80::/64 with the identifier
+-- interface-address: fe80::/64 with the identifier
 unfoldable pub linkLocal : ℕ → List ℕ
 linkLocal m = 0xfe ∷ 0x80 ∷ replicate 6 0 ++ identifier m
 
@@ -28,7 +28,7 @@ linkLocal m = 0xfe ∷ 0x80 ∷ replicate 6 0 ++ identifier m
 unfoldable pub fromMac : List ℕ → Bool
 fromMac i = eqb (getD i 3 0) 0xff && eqb (getD i 4 0) 0xfe
 
--- the other way: FF FE are dropped, and the bit is flipped back
+-- mid-from-address, the other way: FF FE are dropped, and the bit is flipped back
 unfoldable pub midOfIdentifier : List ℕ → ℕ
 midOfIdentifier i = bigEndian (firstFlipped (take 3 i ++ drop 5 i))
 

@@ -1,4 +1,4 @@
--- Document 01, Replies 9, 8 and 10: what makes an IPv6 packet bad, in this order.
+-- RULES, What arrives (packet-refusals): what makes an IPv6 packet bad, in this order.
 use Prim.Native.Nat.{ℕ, _+_, _/_}
 use mathlib.Core.Bool.{Bool, not, _||_}
 use mathlib.Core.List.{List, []}
@@ -21,11 +21,11 @@ source p = take 16 (drop 8 p)
 abbrev pub destination : List ℕ → List ℕ
 destination p = take 16 (drop 24 p)
 
--- under 40 bytes, or version not 6, or payload length field + 40 not the packet's length
+-- reply-8: under 40 bytes, or version not 6, or payload length field + 40 not the packet's length
 unfoldable pub malformed : List ℕ → Bool
 malformed p = ltb (length p) 40 || not (eqb (version p) 6) || not (eqb (payloadLength p + 40) (length p))
 
--- source multicast or ::1, or destination :: or ::1
+-- reply-10: source multicast or ::1, or destination :: or ::1
 unfoldable pub forbidden : List ℕ → Bool
 forbidden p = multicast (source p) || loopback (source p) || unspecified (destination p) || loopback (destination p)
 

@@ -1,4 +1,4 @@
-// IPv6 as far as document 01 needs it: is a packet good, where are its addresses, and what they say of a MID.
+// IPv6 as far as the rules need it: is a packet good, where are its addresses, and what they say of a MID.
 ghost use mathlib.Core.Path.{_≡_};
 ghost use Prim.Native.Nat.{_≤_};
 ghost use lib.ListN.{length};

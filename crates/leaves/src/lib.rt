@@ -1,4 +1,4 @@
-// Document 01, What leaves: the half of a request, and of the question for an interface address, that knows no layout of the
+// RULES, What leaves: the half of a request, and of the question for an interface address, that knows no layout of the
 // table. A request is refused, or sent down with its transport and destination, on the link that was found for its index.
 use ipv6::PerhapsMid;
 use links::Interface;

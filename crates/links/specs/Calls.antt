@@ -1,4 +1,4 @@
--- The calls that alter the table: their refusals in document 01's order, and what they do where they are not refused.
+-- The calls that alter the table: their refusals in the rules' order, and what they do where they are not refused.
 use Prim.Native.Nat.{ℕ, zero, suc, _+_, _-_}
 use mathlib.Core.Bool.{Bool, true, not, _&&_}
 use mathlib.Core.List.{List, [], _∷_, _++_}
@@ -29,7 +29,7 @@ abbrev pub goodDynamic : PerhapsArea → Bool
 goodDynamic (Set a) = goodArea a
 goodDynamic Unset = true
 
--- the refusals of an enable that the enabled links decide
+-- enable-refusals: those that the enabled links decide
 unfoldable pub slotRules : List Slot → Settings → List Rule
 slotRules l s =
     4 if any (with (λ r. sameGround r s)) l
@@ -81,7 +81,7 @@ withOwn t m = record {
 abbrev pub linkOf : ℕ → PerhapsLink
 linkOf k = Link (record { 0 = k + 2 })
 
--- an enable takes the lowest unused index; of the others none gives a link
+-- link-lowest-index: an enable takes it; of the others none gives a link
 unfoldable pub linkAfter : List Slot → TableCall → PerhapsLink
 linkAfter l (enable s) = linkOf (place unused l)
 linkAfter l (disable i) = Nothing
@@ -94,7 +94,7 @@ tableAfter t (disable i) = withSlot t (i - 2) free
 tableAfter t (setArea a) = withArea t a
 tableAfter t (setOwn m) = withOwn t m
 
--- a refusal returns its number, no link, and changes nothing
+-- refusal-leaves: its number, no link, and nothing changed
 abbrev pub answer : ℕ → Table → TableCall → Reply
 answer zero t c = record { number = 0; link = linkAfter (counted t) c; table = tableAfter t c }
 answer (suc n) t c = record { number = suc n; link = Nothing; table = t }
@@ -102,7 +102,7 @@ answer (suc n) t c = record { number = suc n; link = Nothing; table = t }
 unfoldable pub reply : Table → TableCall → Reply
 reply t c = answer (refusal (rules (counted t) c)) t c
 
--- start: the least maximum is 2, and `most` the largest
+-- link-maximum: the least is 2, and `most` the largest
 abbrev pub startOk : ℕ → StartValues → Bool
 startOk most v =
     midOk (v .own)
@@ -138,7 +138,7 @@ plain = record { kind = 1; flag = 1 }
 abbrev pub plainStart : StartValues
 plainStart = record { own = 0; max = 2; tvl = plain; dgvl = plain }
 
--- a refused start returns its number and the table for own MID 0, maximum 2, fixed links of kind 1 and flag 1
+-- start-refused: its number and the table for own MID 0, maximum 2, fixed links of kind 1 and flag 1
 abbrev pub begin : ℕ → List Slot → StartValues → Reply
 begin zero memory v = record { number = 0; link = Nothing; table = fresh memory v }
 begin (suc n) memory v = record { number = suc n; link = Nothing; table = fresh memory plainStart }

@@ -16,12 +16,12 @@ use Rattle.links.specs.Slots.{free, inUse, counted}
 use Rattle.links.specs.Calls.{TableCall, enable, disable, setArea, setOwn, rules, reply, linkOf, withArea, withOwn, startValues, fresh, plainStart, start}
 use Rattle.links.specs.Reached.{Reached}
 
--- Demand 1: bad input gets its number in document 01's order, and a refusal changes nothing
+-- Demand 1: bad input gets its number in the rules' order, and a refusal changes nothing
 pub record Refuses (t : Table) (c : TableCall) : Type 0 where
   pub exact : Exact (rules (counted t) c) (reply t c .number)
   pub unchanged : reply t c .number ≢ 0 → (reply t c .table ≡ t) × (reply t c .link ≡ Nothing)
 
--- of a start: a refused one gives the table that document 01 names
+-- of a start: a refused one gives the plain table
 pub record RefusesStart (most : ℕ) (memory : List Slot) (v : StartValues) : Type 0 where
   pub exact : Exact (startValues most v) (start most memory v .number)
   pub plainTable : start most memory v .number ≢ 0 → start most memory v .table ≡ fresh memory plainStart

@@ -12,7 +12,7 @@ use Rattle.links.specs.declared.Slot.{Slot}
 use Rattle.links.specs.declared.Table.{Table}
 use Rattle.links.specs.Slots.{counted, slotAt}
 
--- the fixed links always, a stop link while it is enabled
+-- link-fixed: the fixed links always, a stop link while it is enabled
 unfoldable pub enabledAt : List Slot → ℕ → Bool
 enabledAt l i = ltb i 2 || slotAt l i .enabled
 

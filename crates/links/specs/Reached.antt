@@ -13,7 +13,7 @@ use Rattle.links.specs.Settings.{interfaceOk, settingsRules, sameGround,
 use Rattle.links.specs.Slots.{Has, free, valueSlots, counted, enabledCount}
 use Rattle.links.specs.Calls.{startValues, fresh, goodDynamic, TableCall, reply}
 
--- in a memory of slots, with maxima up to `most`: a start that is not refused, then calls, refused or not
+-- table-reached: in a memory of slots, with maxima up to `most`: a start that is not refused, then calls, refused or not
 pub data Reached (most : ℕ) (memory : List Slot) : Table → Type 0 where
   started : (v : StartValues) → refusal (startValues most v) ≡ 0 → v .max - 1 ≤ length memory → Reached most memory (fresh memory v)
   called : {t : Table} → Reached most memory t → (c : TableCall) → Reached most memory (reply t c .table)
@@ -33,11 +33,11 @@ pub record Sound (most : ℕ) (memory : List Slot) (t : Table) : Type 0 where
   pub tvl : interfaceOk (t .tvl) ≡ true
   pub dgvl : interfaceOk (t .dgvl) ≡ true
   pub area : goodDynamic (t .area) ≡ true
-  -- enabled links are good, with pairwise different areas and no overlapping prefixes
+  -- link-apart: enabled links are good, with pairwise different areas and no overlapping prefixes
   pub good : (k : ℕ) (s : Settings) → Has (counted t) k s → refusal (settingsRules s) ≡ 0
   pub areas : Apart sameGround (counted t)
   pub prefixes : Apart overlaps (counted t)
-  -- there is a slot for each index up to the maximum, so at most maximum - 1 links are enabled
+  -- link-most: there is a slot for each index up to the maximum, so at most maximum - 1 links are enabled
   pub room : length (counted t) ≡ t .max - 1
   pub few : enabledCount (counted t) ≤ t .max - 1
   -- everything else is blank, and the memory past the slots that count is as it was

@@ -1,4 +1,4 @@
--- Document 01, Virtual links: settings, which are good, and what two stop links have to do with each other.
+-- RULES, Virtual links: settings, which are good, and what two stop links have to do with each other.
 use Prim.Native.Nat.{ℕ, _^_}
 use mathlib.Core.Path.{_≡_}
 use mathlib.Core.Bool.{Bool, true, not, _&&_}
@@ -10,15 +10,15 @@ use Rattle.prefix.specs.Prefix.{holds, overlap, goodPrefix}
 use Rattle.links.specs.declared.Interface.{Interface}
 use Rattle.links.specs.declared.Settings.{Settings}
 
--- MID: 48 bits
+-- mid-range: 48 bits
 abbrev pub midOk : ℕ → Bool
 midOk m = ltb m (2 ^ 48)
 
--- kinds: 1 Ethernet LAN, 2 NBMA, 3 point-to-point; flag: 0 or 1
+-- kind-list, flag-list: kinds 1 Ethernet LAN, 2 NBMA, 3 point-to-point; flag: 0 or 1
 unfoldable pub interfaceOk : Interface → Bool
 interfaceOk f = leb 1 (f .kind) && leb (f .kind) 3 && leb (f .flag) 1
 
--- the refusals of an enable that the settings alone decide: their values, then area and prefix
+-- enable-refusals: those that the settings alone decide: their values, then area and prefix
 unfoldable pub settingsValues : Settings → List Rule
 settingsValues s = 1 if not (interfaceOk (s .interface)) then []
 
@@ -41,7 +41,7 @@ overlaps r s = overlap (r .prefix) (s .prefix)
 unfoldable pub reaches : Settings → List ℕ → Bool
 reaches s address = holds (s .prefix) address
 
--- equal settings
+-- settings-equal
 pub record Same (r s : Settings) : Type 0 where
   pub area : sameArea (r .area) (s .area) ≡ true
   pub prefix : r .prefix ≡ s .prefix

@@ -18,7 +18,7 @@ blank = record {
   interface = record { kind = 0; flag = 0 };
 }
 
--- a disabled slot is blank
+-- link-give-back: a disabled slot is blank
 abbrev pub free : Slot
 free = record { enabled = false; settings = blank }
 

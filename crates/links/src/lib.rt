@@ -1,4 +1,4 @@
-// Document 01, Virtual links: the types of the table of virtual links. What the calls on it answer is defined in specs/;
+// RULES, Virtual links: the types of the table of virtual links. What the calls on it answer is defined in specs/;
 // the laws of demands 1 and 2 are proved here of the definitions, for every layout of the table.
 
 pub mod checks;

@@ -15,7 +15,7 @@ number b (d ∷ ds) = d * b ^ length ds + number b ds
 abbrev pub bigEndian : List ℕ → ℕ
 bigEndian = number 256
 
--- document 01, MID: 48 bits, as six bytes
+-- mid-number: 48 bits, as six bytes, highest first
 abbrev pub mac : ℕ → List ℕ
 mac m = digits 256 6 m
 

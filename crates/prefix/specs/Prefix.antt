@@ -1,4 +1,4 @@
--- Document 01, Prefix: what a prefix holds, which two overlap, and which are good.
+-- RULES, Prefix: what a prefix holds, which two overlap, and which are good.
 use Prim.Native.Nat.{ℕ, _+_, _/_, min}
 use mathlib.Core.Bool.{Bool, not, _&&_, _||_}
 use mathlib.Core.List.{List, _∷_}
@@ -8,11 +8,11 @@ use Rattle.octets.specs.Digits.{bits}
 use Rattle.octets.specs.Runs.{same, allZero}
 use Rattle.prefix.specs.declared.Prefix.{Prefix}
 
--- length 0 means none
+-- prefix-none: length 0 means none
 abbrev pub noPrefix : Prefix
 noPrefix = record { len = 0; bytes = replicate 16 0 }
 
--- the first bits, as many as the prefix's length, equal its own; none holds nothing
+-- prefix-holds: the first bits, as many as the prefix's length, equal its own; none holds nothing
 unfoldable pub agrees : Prefix → List ℕ → Bool
 agrees p bytes = ltb 0 (p .len) && same (take (p .len) (bits (p .bytes))) (take (p .len) (bits bytes))
 
@@ -24,17 +24,18 @@ holds p address = eqb (length address) 16 && agrees p address
 unfoldable pub holdsPrefix : Prefix → Prefix → Bool
 holdsPrefix p q = leb (p .len) (q .len) && agrees p (q .bytes)
 
+-- prefix-overlap: one holds the other, and neither is none
 unfoldable pub overlap : Prefix → Prefix → Bool
 overlap p q = ltb 0 (p .len) && ltb 0 (q .len) && (holdsPrefix p q || holdsPrefix q p)
 
--- fe80::/10 and ff00::/8
+-- prefix-reserved: fe80::/10 and ff00::/8
 abbrev pub linkLocalPrefix : Prefix
 linkLocalPrefix = record { len = 10; bytes = 0xfe ∷ 0x80 ∷ replicate 14 0 }
 
 abbrev pub multicastPrefix : Prefix
 multicastPrefix = record { len = 8; bytes = 0xff ∷ replicate 15 0 }
 
--- no longer length, no bit set past the length, no overlap with fe80::/10 or ff00::/8
+-- prefix-good: no longer length, no bit set past the length, no overlap with fe80::/10 or ff00::/8
 unfoldable pub goodPrefix : Prefix → Bool
 goodPrefix p =
     leb (p .len) 128
@@ -42,6 +43,6 @@ goodPrefix p =
     && not (overlap p linkLocalPrefix)
     && not (overlap p multicastPrefix)
 
--- as many bytes as a length needs; a length above 128 needs no more than an address has
+-- record-prefix: as many bytes as a length needs; a length above 128 needs no more than an address has
 abbrev pub bytesNeeded : ℕ → ℕ
 bytesNeeded len = (min len 128 + 7) / 8

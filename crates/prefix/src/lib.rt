@@ -1,4 +1,4 @@
-// Document 01, Prefix: which addresses and prefixes a prefix holds, which two overlap, and which are good.
+// RULES, Prefix: which addresses and prefixes a prefix holds, which two overlap, and which are good.
 ghost use mathlib.Core.Path.{_≡_};
 ghost use Prim.Native.Nat.{_+_, _*_, _-_, _/_, _%_, _^_, _≤_, _<_, min};
 ghost use lib.ListN.{length, take, drop};

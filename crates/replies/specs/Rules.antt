@@ -1,4 +1,4 @@
--- Document 01, Replies: refusals are conditions with their numbers, in order, and the first that holds is given.
+-- RULES, Replies (reply-first): refusals are conditions with their numbers, in order, and the first that holds is given.
 use Prim.Native.Nat.{ℕ, _<_}
 use mathlib.Core.Path.{_≡_}
 use mathlib.Core.Logic.{_⊎_, _↔_}

@@ -1,4 +1,4 @@
--- Document 01, What arrives: the refusals of an indication, the choice of its link in four lines, and what is written.
+-- RULES, What arrives: the refusals of an indication, the choice of its link in four lines, and what is written.
 use Prim.Native.Nat.{ℕ, zero, suc, _+_, _-_, _^_}
 use mathlib.Core.Path.{_≡_}
 use mathlib.Core.Bool.{Bool, true, false, cond, not, _&&_, _||_}
@@ -43,7 +43,7 @@ indication h packet = record {
 
 -- Refusals
 
--- MID for transport 1, area for 2 and 3, nothing for 4; a MID is in range
+-- destination-sort: MID for transport 1, area for 2 and 3, nothing for 4; a MID is in range
 abbrev pub rightSort : Destination → ℕ → Bool
 rightSort (Mid m) n = eqb n 1 && midOk m
 rightSort (Within a) n = eqb n 2 || eqb n 3
@@ -54,7 +54,7 @@ goodDestination (Mid m) = true
 goodDestination (Within a) = goodArea a
 goodDestination Nothing = true
 
--- no table stands here: whether an indication is refused is no matter of the table
+-- indication-refusals. No table stands here: whether an indication is refused is no matter of the table
 
 -- its values
 unfoldable pub indicationValues : Indication → List Rule
@@ -97,11 +97,11 @@ isArea (Mid m) b = false
 isArea (Within a) b = sameArea b a
 isArea Nothing b = false
 
--- line 2: transport 2 or 3, and an equal area
+-- line-2: transport 2 or 3, and an equal area
 unfoldable pub byArea : Indication → Settings → Bool
 byArea x s = (eqb (x .transport) 2 || eqb (x .transport) 3) && isArea (x .destination) (s .area)
 
--- line 3: transport 1, and the prefix holds the packet's destination; failing that, its source
+-- line-3: transport 1, and the prefix holds the packet's destination; failing that, its source
 unfoldable pub byDestination : Indication → Settings → Bool
 byDestination x s = eqb (x .transport) 1 && reaches s (destination (x .packet))
 
@@ -112,6 +112,7 @@ abbrev pub failing : PerhapsStop → Link → Link
 failing (at k s) l = stop k s
 failing nowhere l = l
 
+-- line-first: TSB is line-1, and the dynamic link line-4
 unfoldable pub choose : List Slot → Indication → Link
 choose l x =
     cond (eqb (x .transport) 4) topological
@@ -147,13 +148,13 @@ choiceOr (suc n) link = record { number = suc n; link = NoLink }
 unfoldable pub choiceOf : Table → Indication → Choice
 choiceOf t x = choiceOr (refusal (choiceRules x)) (indexOf (choose (counted t) x))
 
--- the destination MID for transport 1, FF:FF:FF:FF:FF:FF otherwise
+-- frame-bytes: the destination MID for transport 1, FF:FF:FF:FF:FF:FF otherwise
 abbrev pub macTo : Destination → ℕ
 macTo (Mid m) = m
 macTo (Within a) = 2 ^ 48 - 1
 macTo Nothing = 2 ^ 48 - 1
 
--- an Ethernet frame on kind 1, the packet alone on kinds 2 and 3
+-- frame-kind: an Ethernet frame on kind 1, the packet alone on kinds 2 and 3
 unfoldable pub frameOrPacket : ℕ → Indication → List ℕ
 frameOrPacket kind x =
     cond (eqb kind 1)

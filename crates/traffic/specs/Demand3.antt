@@ -1,4 +1,4 @@
--- Demand 3 of the mission, in its words: what more stop links change for a packet.
+-- Rule demand-3, in its words: what more stop links change for a packet.
 use Prim.Native.Nat.{ℕ}
 use mathlib.Core.Path.{_≡_}
 use mathlib.Core.Logic.{_≢_}

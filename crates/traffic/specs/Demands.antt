@@ -1,4 +1,4 @@
--- Demands 1 and 2 of the mission, for every call of document 01: start, enable, disable, DGVL area and own MID (`links: Demands`),
+-- Rules demand-1 and demand-2, for every call: start, enable, disable, DGVL area and own MID (`links: Demands`),
 -- indication, request and interface address. The last three give back no table: they leave it as it is.
 use Prim.Native.Nat.{ℕ, _+_, _≤_}
 use mathlib.Core.Path.{_≡_}
@@ -70,7 +70,7 @@ pub record Foretells (t : Table) (x : Indication) (buffer : List ℕ) : Type 0 w
   pub number : receive t x buffer .reply .number ≡ choiceOf t x .number
   pub link : receive t x buffer .reply .link ≡ choiceOf t x .link
 
--- a request that is done: what document 01 sends down, with its class and its packet's length
+-- a request that is done: what the rules send down, with its class and its packet's length
 pub record Sends (t : Table) (q : Request) : Type 0 where
   pub enabled : enabledAt (counted t) (q .index) ≡ true
   pub transport : send t q .transport ≡ down (named t (q .index)) q .transport

@@ -1,4 +1,4 @@
--- Document 01, What leaves: the refusals of a request, what is sent down, and the interface address of a link.
+-- RULES, What leaves: the refusals of a request, what is sent down, and the interface address of a link.
 use Prim.Native.Nat.{ℕ, zero, suc}
 use mathlib.Core.Bool.{Bool, true, false, cond, not, _&&_, _||_}
 use mathlib.Core.List.{List, [], _++_}
@@ -35,11 +35,11 @@ request h packet = record { index = h .index .0; class = h .class; neighbour = h
 
 -- What is sent on a link, whatever the layout of the table that it was found in
 
--- on kind 3, or with flag 1, the MID comes from the packet's destination; with flag 0 on kinds 1 and 2 it is the MID given
+-- neighbour-mid: on kind 3, or with flag 1, the MID comes from the packet's destination; with flag 0 on kinds 1 and 2 it is the MID given
 unfoldable pub neighbourOf : Interface → PerhapsMid → List ℕ → PerhapsMid
 neighbourOf f given packet = cond (eqb (f .kind) 3 || eqb (f .flag) 1) (midOf (destination packet)) given
 
--- multicast: TSB without destination on the TVL, GeoBroadcast to the link's area on the others
+-- multicast-out: TSB without destination on the TVL, GeoBroadcast to the link's area on the others
 pub record Down : Type 0 where
   pub transport : ℕ
   pub destination : Destination
@@ -74,7 +74,7 @@ abbrev pub isUnknown : PerhapsMid → Bool
 isUnknown (Known m) = false
 isUnknown Unknown = true
 
--- 11: multicast on the DGVL without an area; 12: neighbour not resolvable
+-- request-refusals. 11: multicast on the DGVL without an area; 12: neighbour not resolvable
 unfoldable pub resolveRules : Named → Request → List Rule
 resolveRules l q =
     11 if (multicast (destination (q .packet)) && eqb (q .index) 1 && isUnset (l .area))

@@ -1,4 +1,4 @@
-// Document 01, What arrives and What leaves: the types of indications and requests. What they are answered is defined in specs/,
+// RULES, What arrives and What leaves: the types of indications and requests. What they are answered is defined in specs/,
 // and demand 3 is proved here of the definitions, for every layout of the table.
 use area::Area;
 use ipv6::PerhapsMid;

@@ -1,4 +1,4 @@
-// Document 01, Virtual links: the calls that alter the table, over a table by value.
+// RULES, Virtual links: the calls that alter the table, over a table by value.
 // A call takes the table and returns it with the reply; a refusal returns it as it was.
 use links::LinkIndex;
 use links::PerhapsArea;

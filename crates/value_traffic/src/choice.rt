@@ -1,4 +1,4 @@
-// The choice of a link of a table by value, by the first of document 01's four lines that fits.
+// The choice of a link of a table by value, by the first of the four lines that fits (line-first).
 use area::Area;
 use links::Chosen;
 use links::Interface;

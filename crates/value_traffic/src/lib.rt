@@ -1,4 +1,4 @@
-// Document 01, What arrives and What leaves, over a table by value: the link is looked for here, and the rest is `arrives` and
+// RULES, What arrives and What leaves, over a table by value: the link is looked for here, and the rest is `arrives` and
 // `leaves`. The table does not change.
 mod choice;
 

@@ -1,4 +1,4 @@
--- Document 01's cases at the edges that are marked *: one test computes every row, and one law turns it into the statement.
+-- RULES, Cases at the edges (edge-stars): one test computes every row, and one law turns it into the statement.
 use mathlib.Core.Path.{_≡_, refl}
 use mathlib.Core.Bool.{Bool, true, false, _&&_}
 use mathlib.Core.List.{List, [], _∷_}

@@ -1,4 +1,4 @@
--- Demands 1 and 2, proved for every call of document 01.
+-- Demands 1 and 2, proved for every call.
 use Prim.Native.Nat.{ℕ, zero, suc, _+_, _-_, _≤_}
 use native.Mathlib.Omega.{arith}
 use mathlib.Core.Path.{_≡_, refl, sym, _∙_, ap, subst}
