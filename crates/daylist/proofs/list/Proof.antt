@@ -6,7 +6,7 @@ use lib.ListN.{length}
 use borrow.Author.Needs.{needs}
 use Rattle.replay.specs.Replay.{stepAt}
 use Rattle.daylist.specs.Day.{lent, tableFrom, eveningTable}
-use Rattle.record_laws.proofs.Laws.Next.{step-behind}
+use Rattle.record_laws.proofs.Laws.Steps.{step-behind}
 use Rattle.daylist.proofs.Laws.Day.{day-goes-on, day-breaks, day-ends}
 use Rattle.daylist.proofs.list.Statement.{statement}
 use Rattle.daylist.proofs.list.Tie as tie
@@ -18,14 +18,14 @@ Inv-loop input started₀ t₀ at₀ line₀ started t at line =
 abbrev μ-loop : tie.MeasureT-loop
 μ-loop input started₀ t₀ at₀ line₀ started t at line = length input - at
 
-unstarted-requires : tie.Need-unstarted-requires Inv-loop μ-loop
-unstarted-requires c κs = search needs
+plain-requires : tie.Need-plain-requires Inv-loop μ-loop
+plain-requires c κs = search needs
 
 loop-holds : tie.Need-loop-holds Inv-loop μ-loop
 unfolding eveningTable
 loop-holds c =
     let all : length (c .before .before .args .input .now) - 0 ≡ length (c .before .before .args .input .now) = omega arith in
-    (omega arith, omega arith, rw (c .unstarted .ensures, all))
+    (omega arith, omega arith, rw (c .plain .ensures, all))
 
 add-line : tie.Need-add-line Inv-loop μ-loop
 add-line c = search (c .before .loop .inv, needs)
@@ -81,7 +81,7 @@ list-spec =
     (tie.spec
     Inv-loop
     μ-loop
-    unstarted-requires
+    plain-requires
     loop-holds
     add-line
     slice-aggregate-one-record

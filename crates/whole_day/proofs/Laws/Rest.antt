@@ -15,7 +15,7 @@ use Rattle.whole_day.specs.Day.{Box, lineSum, behind, ended, rest}
 
 -- the box behind a record that alters the table, and behind any other
 module _ (input : List ℕ) (b : Box) where
-  pub altered-behind : (r : Record) (a : Alteration) (sum : ℕ) → r ≡ recordAt input (b .at) → a ≡ altered (b .table) (r .prefix) (r .call) → sum ≡ lineSum (b .sum) (a .number) (a .link) 0 → alters (b .started) (r .call) ≡ true
+  pub altered-behind : (r : Record) (a : Alteration) (sum : ℕ) → r ≡ recordAt input (b .at) → a ≡ altered (b .table) (r .carried) (r .call) → sum ≡ lineSum (b .sum) (a .number) (a .link) 0 → alters (b .started) (r .call) ≡ true
       → behind input b ≡ record { started = a .started; table = a .table; at = r .next; sum = sum; buffer = b .buffer }
   unfolding behind stepAt bufferAt
   altered-behind r a sum e f g h = rw (← e, h, g, f)

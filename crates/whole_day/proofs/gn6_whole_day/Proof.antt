@@ -6,7 +6,7 @@ use lib.ListN.{length}
 use borrow.Author.Needs.{needs}
 use borrow.Author.Tests.{ltb-true, ltb-false, eq-eqb, ne-eqb}
 use Rattle.dayfile.specs.Records.{recordAt}
-use Rattle.record_laws.proofs.Laws.Next.{alters-behind}
+use Rattle.record_laws.proofs.Laws.Steps.{alters-behind}
 use Rattle.whole_day.specs.Day.{Box, rest, ended, unstarted, eveningBox}
 use Rattle.whole_day.proofs.Laws.Rest.{altered-behind, line-behind, again, stopped, read-all, no-turn}
 use Rattle.whole_day.proofs.gn6_whole_day.Statement.{statement}
@@ -19,12 +19,12 @@ Inv-loop input out₀ started₀ t₀ at₀ sum₀ turns₀ out started t at sum
 abbrev μ-loop : tie.MeasureT-loop
 μ-loop input out₀ started₀ t₀ at₀ sum₀ turns₀ out started t at sum turns = turns
 
-unstarted-requires : tie.Need-unstarted-requires Inv-loop μ-loop
-unstarted-requires c κs = search needs
+plain-requires : tie.Need-plain-requires Inv-loop μ-loop
+plain-requires c κs = search needs
 
 loop-holds : tie.Need-loop-holds Inv-loop μ-loop
 unfolding eveningBox unstarted
-loop-holds c = (rw (c .unstarted .ensures), refl)
+loop-holds c = (rw (c .plain .ensures), refl)
 
 read-requires : tie.Need-read-requires Inv-loop μ-loop
 read-requires c κs = search needs
@@ -125,7 +125,7 @@ gn6-whole-day-spec =
     (tie.spec
     Inv-loop
     μ-loop
-    unstarted-requires
+    plain-requires
     loop-holds
     read-requires
     sub-turns
