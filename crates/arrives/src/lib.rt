@@ -11,10 +11,10 @@ ghost use mathlib.Core.Path.{_≡_};
 ghost use mathlib.Core.List.{[]};
 ghost use Rattle.replies.specs.Rules.{refusal};
 ghost use Rattle.frames.specs.Frame.{put, putLength};
-ghost use Rattle.traffic.specs.Arrives.{indication, indicationValues, contentRules, choiceRules, macTo, frameOrPacket, refusedReply, deliverOn};
+ghost use Rattle.traffic.specs.Arrives.{indication, indicationValues, contentRules, choiceRules, macTo, frameOrPacket, notReceived, deliverOn};
 
 // The number by which its values refuse an indication: 1, or 0.
-pub fn values_refusal(h: IndicationHead) -> u8
+pub fn indication_values_refusal(h: IndicationHead) -> u8
     ensures { λ r. ⌜ r ≡ refusal (indicationValues (indication h [])) ⌝ }
 {
     let d = h.destination;
@@ -39,7 +39,7 @@ pub fn content_refusal(h: IndicationHead, packet: &[u8]) -> u8
 pub fn choice_refusal(h: IndicationHead, packet: &[u8]) -> u8
     ensures { λ r. ⌜ r ≡ refusal (choiceRules (indication h (now (packet .entry)))) ⌝ }
 {
-    let bad = values_refusal(h);
+    let bad = indication_values_refusal(h);
     if bad != replies::DONE {
         return bad;
     }
@@ -47,8 +47,8 @@ pub fn choice_refusal(h: IndicationHead, packet: &[u8]) -> u8
 }
 
 // The reply of an indication that is refused.
-pub fn refused(number: u8) -> Reception
-    ensures { λ r. ⌜ r ≡ refusedReply number ⌝ }
+pub fn not_received(number: u8) -> Reception
+    ensures { λ r. ⌜ r ≡ notReceived number ⌝ }
 {
     Reception {
         number: number,
@@ -85,7 +85,7 @@ pub fn deliver(link: Chosen, h: IndicationHead, packet: &[u8], out: &mut [u8]) -
     ensures { λ r. ⌜ (r ≡ deliverOn link (indication h (now (packet .entry))) (now (out .entry)) .reply) × (now (out .exit) ≡ deliverOn link (indication h (now (packet .entry))) (now (out .entry)) .buffer) ⌝ }
 {
     if out.len() < packet.len() + frames::HEADER {
-        return refused(replies::NO_ROOM);
+        return not_received(replies::NO_ROOM);
     }
     let index = link.index;
     let length = write(link.kind, h, packet, out);

@@ -52,7 +52,7 @@ fn within_area(a: PerhapsArea) -> Destination
 }
 
 // The number by which its values refuse a request: 1, or 0.
-pub fn values_refusal(h: RequestHead) -> u8
+pub fn request_values_refusal(h: RequestHead) -> u8
     ensures { λ r. ⌜ r ≡ refusal (requestValues (request h [])) ⌝ }
 {
     let neighbour = h.neighbour;
@@ -63,7 +63,7 @@ pub fn values_refusal(h: RequestHead) -> u8
 }
 
 // The reply of a request that is refused.
-pub fn refused(number: u8) -> Sending
+pub fn not_sent(number: u8) -> Sending
     ensures { λ r. ⌜ r ≡ notSent number ⌝ }
 {
     Sending {
@@ -92,17 +92,17 @@ pub fn send_on(link: Named, h: RequestHead, packet: &[u8]) -> Sending
     ensures { λ r. ⌜ r ≡ sendOn link (request h (now (packet .entry))) ⌝ }
 {
     if !link.enabled {
-        return refused(replies::NO_SUCH_LINK);
+        return not_sent(replies::NO_SUCH_LINK);
     }
     let bad = ipv6::packet_refusal(packet);
     if bad != replies::DONE {
-        return refused(bad);
+        return not_sent(bad);
     }
     let index = h.index;
     if ipv6::is_multicast(ipv6::destination_of(packet)) {
         let area = link.area;
         if (index.0 == LinkIndex::DGVL.0) & is_unset(area) {
-            return refused(replies::AREA_MISSING);
+            return not_sent(replies::AREA_MISSING);
         }
         if index.0 == LinkIndex::TVL.0 {
             return sent(traffic::TSB, Destination::Nothing, h.class, packet.len());
@@ -119,7 +119,7 @@ pub fn send_on(link: Named, h: RequestHead, packet: &[u8]) -> Sending
             h.class,
             packet.len(),
         ),
-        PerhapsMid::Nothing => refused(replies::NEIGHBOUR_UNKNOWN),
+        PerhapsMid::Nothing => not_sent(replies::NEIGHBOUR_UNKNOWN),
     }
 }
 

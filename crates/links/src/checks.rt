@@ -46,7 +46,7 @@ pub fn start_refusal(most: usize, v: StartValues) -> u8
 }
 
 // The number by which its values refuse an enable: 1, or 0.
-pub fn values_refusal(s: Settings) -> u8
+pub fn settings_values_refusal(s: Settings) -> u8
     ensures { λ r. ⌜ r ≡ refusal (settingsValues s) ⌝ }
 {
     let f = s.interface;
@@ -73,7 +73,7 @@ pub fn ground_refusal(s: Settings) -> u8
 pub fn settings_refusal(s: Settings) -> u8
     ensures { λ r. ⌜ r ≡ refusal (settingsRules s) ⌝ }
 {
-    let bad = values_refusal(s);
+    let bad = settings_values_refusal(s);
     if bad != replies::DONE {
         return bad;
     }

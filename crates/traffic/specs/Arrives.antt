@@ -176,11 +176,11 @@ deliverAs w x buffer index = record {
 abbrev pub deliver : Table → Indication → List ℕ → Link → Received
 deliver t x buffer l = deliverAs (frameOrPacket (kindOf t l) x) x buffer (record { 0 = indexNumber l })
 
-abbrev pub refusedReply : ℕ → Reception
-refusedReply n = record { number = n; link = NoLink; length = 0; source = 0; class = 0 }
+abbrev pub notReceived : ℕ → Reception
+notReceived n = record { number = n; link = NoLink; length = 0; source = 0; class = 0 }
 
 abbrev pub refuse : ℕ → List ℕ → Received
-refuse n buffer = record { reply = refusedReply n; buffer = buffer }
+refuse n buffer = record { reply = notReceived n; buffer = buffer }
 
 abbrev pub unless : ℕ → List ℕ → Received → Received
 unless zero buffer r = r

@@ -24,7 +24,7 @@ fn of_area(a: Area) -> Settings
 }
 
 // The link by its index, and its kind.
-pub fn link_of(t: Table, h: IndicationHead, packet: &[u8]) -> Chosen
+pub fn chosen_for(t: Table, h: IndicationHead, packet: &[u8]) -> Chosen
     ensures { λ r. ⌜ r ≡ chosenFor t (indication h (now (packet .entry))) ⌝ }
 {
     let transport = h.transport;

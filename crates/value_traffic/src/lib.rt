@@ -26,7 +26,7 @@ pub fn link_of(t: Table, h: IndicationHead, packet: &[u8]) -> Choice
             link: PerhapsLink::Nothing,
         };
     }
-    let chosen = choice::link_of(t, h, packet);
+    let chosen = choice::chosen_for(t, h, packet);
     let index = chosen.index;
     Choice {
         number: replies::DONE,
@@ -39,17 +39,17 @@ pub fn indication(t: Table, h: IndicationHead, packet: &[u8], out: &mut [u8]) ->
 {
     let bad = arrives::choice_refusal(h, packet);
     if bad != replies::DONE {
-        return arrives::refused(bad);
+        return arrives::not_received(bad);
     }
-    arrives::deliver(choice::link_of(t, h, packet), h, packet, out)
+    arrives::deliver(choice::chosen_for(t, h, packet), h, packet, out)
 }
 
 pub fn request(t: Table, h: RequestHead, packet: &[u8]) -> Sending
     ensures { λ r. ⌜ r ≡ send t (request h (now (packet .entry))) ⌝ }
 {
-    let bad = leaves::values_refusal(h);
+    let bad = leaves::request_values_refusal(h);
     if bad != replies::DONE {
-        return leaves::refused(bad);
+        return leaves::not_sent(bad);
     }
     leaves::send_on(value_slots::index::link_at(t, h.index), h, packet)
 }

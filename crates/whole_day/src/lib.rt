@@ -5,7 +5,7 @@ use links::PerhapsLink;
 use links::Table;
 ghost use mathlib.Core.Path.{_≡_};
 ghost use Prim.Native.Nat.{_+_, _*_, _%_};
-ghost use Rattle.whole_day.specs.Day.{mixed, linkNumber, lineSum, sumOf, bufferOf};
+ghost use Rattle.whole_day.specs.Day.{mixed, linkNumber, lineSum, eveningSum, eveningBuffer};
 
 fn mixed(sum: u64, x: u64) -> u64
     ensures { λ r. ⌜ r ≡ mixed sum x ⌝ }
@@ -37,7 +37,7 @@ fn line_sum(sum: u64, number: u8, link: PerhapsLink, length: usize) -> u64
 // bytes replay every input.
 #[no_mangle]
 pub extern "C" fn gn6_whole_day(input: &[u8], out: &mut [u8]) -> u64
-    ensures { λ r. ⌜ (r ≡ sumOf (now (input .entry)) (now (out .entry))) × (now (out .exit) ≡ bufferOf (now (input .entry)) (now (out .entry))) ⌝ }
+    ensures { λ r. ⌜ (r ≡ eveningSum (now (input .entry)) (now (out .entry))) × (now (out .exit) ≡ eveningBuffer (now (input .entry)) (now (out .entry))) ⌝ }
 {
     let mut started = false;
     let mut t = Table::plain();

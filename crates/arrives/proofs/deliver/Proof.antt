@@ -13,14 +13,14 @@ use Rattle.arrives.proofs.deliver.Tie as tie
 add-if1 : tie.Need-add-if1
 add-if1 c = search needs
 
-refused-requires : tie.Need-refused-requires
-refused-requires c κs = search needs
+not-received-requires : tie.Need-not-received-requires
+not-received-requires c κs = search needs
 
 returns : tie.Need-returns
 returns c =
     let args = c .before .before .before .before .args in
     let short = delivered-short (args .link) (indication (args .h) (args .packet .now)) (args .out .now) (c .before .if1 .taken) in
-    (c .refused .ensures ∙ sym (ap (λ (r : Received). r .reply) short), sym (ap (λ (r : Received). r .buffer) short))
+    (c .not-received .ensures ∙ sym (ap (λ (r : Received). r .reply) short), sym (ap (λ (r : Received). r .buffer) short))
 
 write-requires : tie.Need-write-requires
 write-requires c κs = search needs
@@ -46,4 +46,4 @@ returns-2 c =
 
 pub deliver-spec : {M : Type 1} → statement M
 deliver-spec =
-    tie.close (tie.spec add-if1 refused-requires returns write-requires same-length returns-2)
+    tie.close (tie.spec add-if1 not-received-requires returns write-requires same-length returns-2)

@@ -27,25 +27,25 @@ module _ (c : tie.Else2) where
 multi : (c : tie.After-is-multicast) → multicast (destination (c .before .before .before .before .before .before .before .before .args .packet .now)) ≡ c .is-multicast .result
 multi c = sym (c .is-multicast .ensures ∙ ap multicast (c .before .destination-of .ensures))
 
-refused-requires : tie.Need-refused-requires
-refused-requires c κs = search needs
+not-sent-requires : tie.Need-not-sent-requires
+not-sent-requires c κs = search needs
 
 returns : tie.Need-returns
 returns c =
     let args = c .before .before .before .before .args in
-    c .refused .ensures ∙ sym (on-disabled (args .link) (request (args .h) (args .packet .now)) (not-true _ (c .before .if1 .taken)))
+    c .not-sent .ensures ∙ sym (on-disabled (args .link) (request (args .h) (args .packet .now)) (not-true _ (c .before .if1 .taken)))
 
 packet-refusal-requires : tie.Need-packet-refusal-requires
 packet-refusal-requires c κs = search needs
 
-refused-requires-2 : tie.Need-refused-requires-2
-refused-requires-2 c κs = search needs
+not-sent-requires-2 : tie.Need-not-sent-requires-2
+not-sent-requires-2 c κs = search needs
 
 returns-2 : tie.Need-returns-2
 returns-2 c =
     let args = c .before .before .before .before .before .before .args in
     let bad = c .before .before .packet-refusal in
-    c .refused2 .ensures
+    c .not-sent2 .ensures
     ∙ sym (on-bad-packet (args .link) (request (args .h) (args .packet .now)) (bad .result) (not-false _ (c .before .before .before .if1 .left)) (bad .ensures) (c .before .if2 .taken))
 
 destination-of-requires : tie.Need-destination-of-requires
@@ -57,14 +57,14 @@ is-multicast-requires c κs = search needs
 is-unset-requires : tie.Need-is-unset-requires
 is-unset-requires c κs = search needs
 
-refused-requires-3 : tie.Need-refused-requires-3
-refused-requires-3 c κs = search needs
+not-sent-requires-3 : tie.Need-not-sent-requires-3
+not-sent-requires-3 c κs = search needs
 
 returns-3 : tie.Need-returns-3
 returns-3 c =
     let here = c .before .before .before .before .before .before .before .before .before in
     let many = multi (c .before .before .before .before .before .before) ∙ c .before .before .before .before .before .if3 .taken in
-    c .refused3 .ensures
+    c .not-sent3 .ensures
     ∙ sym (passed here ∙ many-without-area (link here) (asked here) many (rw (← c .before .before .is-unset .ensures) (c .before .if4 .taken)))
 
 sent-requires : tie.Need-sent-requires
@@ -104,8 +104,8 @@ sent-requires-3 c κs = search needs
 enum-told : tie.Need-enum-told
 enum-told c = search needs
 
-refused-requires-4 : tie.Need-refused-requires-4
-refused-requires-4 c κs = search needs
+not-sent-requires-4 : tie.Need-not-sent-requires-4
+not-sent-requires-4 c κs = search needs
 
 returns-6 : tie.Need-returns-6
 returns-6 c =
@@ -119,21 +119,21 @@ returns-7 c =
     let here = c .before .before .before .before .before .before .before .before .before in
     let one = multi (c .before .before .before .before .before .before) ∙ c .before .before .before .before .before .if3 .left in
     let unknown = sym (c .before .before .before .neighbour-of .ensures) ∙ c .before .enum-told .given .1 in
-    c .refused4 .ensures ∙ sym (passed here ∙ one-unknown (link here) (asked here) one unknown)
+    c .not-sent4 .ensures ∙ sym (passed here ∙ one-unknown (link here) (asked here) one unknown)
 
 pub send-on-spec : {M : Type 1} → statement M
 send-on-spec =
     tie.close
     (tie.spec
-    refused-requires
+    not-sent-requires
     returns
     packet-refusal-requires
-    refused-requires-2
+    not-sent-requires-2
     returns-2
     destination-of-requires
     is-multicast-requires
     is-unset-requires
-    refused-requires-3
+    not-sent-requires-3
     returns-3
     sent-requires
     returns-4
@@ -144,6 +144,6 @@ send-on-spec =
     enum-known-m
     sent-requires-3
     enum-told
-    refused-requires-4
+    not-sent-requires-4
     returns-6
     returns-7)

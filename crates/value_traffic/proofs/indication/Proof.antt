@@ -10,18 +10,18 @@ use Rattle.value_traffic.proofs.indication.Tie as tie
 choice-refusal-requires : tie.Need-choice-refusal-requires
 choice-refusal-requires c κs = search needs
 
-refused-requires : tie.Need-refused-requires
-refused-requires c κs = search needs
+not-received-requires : tie.Need-not-received-requires
+not-received-requires c κs = search needs
 
 returns : tie.Need-returns
 returns c =
     let args = c .before .before .before .before .before .args in
     let bad = c .before .before .choice-refusal in
     let none = received-unchosen (args .t) (indication (args .h) (args .packet .now)) (args .out .now) (bad .result) (bad .ensures) (c .before .if1 .taken) in
-    (c .refused .ensures ∙ sym (ap (λ (r : Received). r .reply) none), sym (ap (λ (r : Received). r .buffer) none))
+    (c .not-received .ensures ∙ sym (ap (λ (r : Received). r .reply) none), sym (ap (λ (r : Received). r .buffer) none))
 
-link-of-requires : tie.Need-link-of-requires
-link-of-requires c κs = search needs
+chosen-for-requires : tie.Need-chosen-for-requires
+chosen-for-requires c κs = search needs
 
 deliver-requires : tie.Need-deliver-requires
 deliver-requires c κs = search needs
@@ -36,7 +36,7 @@ returns-2 c =
     let out = args .out .now in
     let bad = c .before .before .before .before .before .before .choice-refusal in
     let on = received-on (args .t) x out (sym (bad .ensures) ∙ c .before .before .before .before .before .if1 .left) in
-    let whole = ap (λ (l : Chosen). deliverOn l x out) (c .before .before .before .before .link-of .ensures) ∙ sym on in
+    let whole = ap (λ (l : Chosen). deliverOn l x out) (c .before .before .before .before .chosen-for .ensures) ∙ sym on in
     let delivered = c .before .before .deliver .ensures in
     (delivered .0 ∙ ap (λ (r : Received). r .reply) whole, delivered .1 ∙ ap (λ (r : Received). r .buffer) whole)
 
@@ -45,9 +45,9 @@ indication-spec =
     tie.close
     (tie.spec
     choice-refusal-requires
-    refused-requires
+    not-received-requires
     returns
-    link-of-requires
+    chosen-for-requires
     deliver-requires
     same-length
     returns-2)

@@ -17,15 +17,15 @@ returns c =
     let bad = c .before .choice-refusal in
     sym (unchosen (args .t) (indication (args .h) (args .packet .now)) (bad .result) (bad .ensures) (c .if1 .taken))
 
-link-of-requires : tie.Need-link-of-requires
-link-of-requires c κs = search needs
+chosen-for-requires : tie.Need-chosen-for-requires
+chosen-for-requires c κs = search needs
 
 returns-2 : tie.Need-returns-2
 returns-2 c =
     let args = c .before .before .before .before .before .args in
     let bad = c .before .before .before .choice-refusal in
-    ap (λ (l : Chosen). record { number = 0; link = Link (l .index) }) (c .before .link-of .ensures)
+    ap (λ (l : Chosen). record { number = 0; link = Link (l .index) }) (c .before .chosen-for .ensures)
     ∙ sym (chosen-on (args .t) (indication (args .h) (args .packet .now)) (sym (bad .ensures) ∙ c .before .before .if1 .left))
 
 pub link-of-spec : {M : Type 1} → statement M
-link-of-spec = tie.close (tie.spec choice-refusal-requires returns link-of-requires returns-2)
+link-of-spec = tie.close (tie.spec choice-refusal-requires returns chosen-for-requires returns-2)

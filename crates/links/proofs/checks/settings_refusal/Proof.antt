@@ -6,14 +6,14 @@ use Rattle.links.proofs.Laws.Replies.{values-numbered}
 use Rattle.links.proofs.checks.settings_refusal.Statement.{statement}
 use Rattle.links.proofs.checks.settings_refusal.Tie as tie
 
-values-refusal-requires : tie.Need-values-refusal-requires
-values-refusal-requires c κs = search needs
+settings-values-refusal-requires : tie.Need-settings-values-refusal-requires
+settings-values-refusal-requires c κs = search needs
 
 returns : tie.Need-returns
 unfolding settingsRules
 returns c =
     let s = c .before .before .args .s in
-    by-first (settingsValues s) (groundRules s) _ (c .before .values-refusal .ensures) (c .if1 .taken)
+    by-first (settingsValues s) (groundRules s) _ (c .before .settings-values-refusal .ensures) (c .if1 .taken)
 
 ground-refusal-requires : tie.Need-ground-refusal-requires
 ground-refusal-requires c κs = search needs
@@ -22,8 +22,8 @@ returns-2 : tie.Need-returns-2
 unfolding settingsRules
 returns-2 c =
     let s = c .before .before .before .args .s in
-    by-second (settingsValues s) (groundRules s) _ _ (values-numbered s) (c .before .before .values-refusal .ensures) (c .before .if1 .left) (c .ground-refusal .ensures)
+    by-second (settingsValues s) (groundRules s) _ _ (values-numbered s) (c .before .before .settings-values-refusal .ensures) (c .before .if1 .left) (c .ground-refusal .ensures)
 
 pub settings-refusal-spec : {M : Type 1} → statement M
 settings-refusal-spec =
-    tie.close (tie.spec values-refusal-requires returns ground-refusal-requires returns-2)
+    tie.close (tie.spec settings-values-refusal-requires returns ground-refusal-requires returns-2)

@@ -1,4 +1,4 @@
--- `value_traffic::choice::link_of` meets its contract.
+-- `value_traffic::choice::chosen_for` meets its contract.
 use Prim.Native.Nat.{ℕ}
 use mathlib.Core.Path.{sym, _∙_, ap}
 use mathlib.Core.List.{List}
@@ -10,8 +10,8 @@ use Rattle.links.specs.Slots.{counted}
 use Rattle.traffic.specs.Arrives.{indication, indexNumber}
 use Rattle.traffic.proofs.Laws.Choice.{IndexOr, choose-topological, choose-other, index-unicast, index-area, index-no-area, index-kept, index-failing, chosen-by-index}
 use Rattle.links.proofs.Laws.Kinds.{topological-kind, dynamic-kind, chosen-is, chosen-index, chosen-kind}
-use Rattle.value_traffic.proofs.choice.link_of.Statement.{statement}
-use Rattle.value_traffic.proofs.choice.link_of.Tie as tie
+use Rattle.value_traffic.proofs.choice.chosen_for.Statement.{statement}
+use Rattle.value_traffic.proofs.choice.chosen_for.Tie as tie
 
 returns : tie.Need-returns
 returns c =
@@ -121,8 +121,8 @@ returns-7 c =
     chosen-is (args .t) _ _ (sym (index-no-area l x (not-false _ (c .before .before .if4 .left)) (λ b. rw (c .enum-told2 .given .1)))) (dynamic-kind (args .t))
     ∙ chosen-by-index (args .t) x
 
-pub link-of-spec : {M : Type 1} → statement M
-link-of-spec =
+pub chosen-for-spec : {M : Type 1} → statement M
+chosen-for-spec =
     tie.close
     (tie.spec
     returns
