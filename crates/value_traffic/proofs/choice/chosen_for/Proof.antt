@@ -1,13 +1,15 @@
 -- `value_traffic::choice::chosen_for` meets its contract.
 use Prim.Native.Nat.{ℕ}
-use mathlib.Core.Path.{sym, _∙_, ap}
+use mathlib.Core.Path.{_≡_, sym, _∙_, ap}
+use mathlib.Core.Bool.{false}
 use mathlib.Core.List.{List}
 use borrow.Author.Tests.{eq-eqb, ne-eqb, not-true, not-false}
 use borrow.Author.Needs.{needs}
+use Rattle.area.specs.declared.Area.{Area}
 use Rattle.ipv6.specs.Packet.{source, destination}
 use Rattle.links.specs.Settings.{sameGround, reaches}
 use Rattle.links.specs.Slots.{counted}
-use Rattle.traffic.specs.Arrives.{indication, indexNumber}
+use Rattle.traffic.specs.Arrives.{indication, isArea, indexNumber, chosenFor}
 use Rattle.traffic.proofs.Laws.Choice.{IndexOr, choose-topological, choose-other, index-unicast, index-area, index-no-area, index-kept, index-failing, chosen-by-index}
 use Rattle.links.proofs.Laws.Kinds.{topological-kind, dynamic-kind, chosen-is, chosen-index, chosen-kind}
 use Rattle.value_traffic.proofs.choice.chosen_for.Statement.{statement}
@@ -105,21 +107,21 @@ returns-5 c =
     (chosen-kind (args .t) (r .result) _ (r .ensures))
     ∙ chosen-by-index (args .t) x
 
-returns-6 : tie.Need-returns-6
-returns-6 c =
-    let args = c .before .before .before .before .before .before .before .before .args in
-    let l = counted (args .t) in
+-- a destination that is no area is that of no stop link
+elsewhere : (c : tie.Else4) → let args = c .before .before .before .before .before .before .args in
+    ((b : Area) → isArea (args .h .destination) b ≡ false)
+    → record { index = record { 0 = 1 }; kind = args .t .dgvl .kind } ≡ chosenFor (args .t) (indication (args .h) (args .packet .now))
+elsewhere c none =
+    let args = c .before .before .before .before .before .before .args in
     let x = indication (args .h) (args .packet .now) in
-    chosen-is (args .t) _ _ (sym (index-no-area l x (not-false _ (c .before .before .if4 .left)) (λ b. rw (c .enum-told .given .1)))) (dynamic-kind (args .t))
+    chosen-is (args .t) _ _ (sym (index-no-area (counted (args .t)) x (not-false _ (c .if4 .left)) none)) (dynamic-kind (args .t))
     ∙ chosen-by-index (args .t) x
 
+returns-6 : tie.Need-returns-6
+returns-6 c = elsewhere (c .before .before) (λ b. rw (c .enum-told .given .1))
+
 returns-7 : tie.Need-returns-7
-returns-7 c =
-    let args = c .before .before .before .before .before .before .before .before .args in
-    let l = counted (args .t) in
-    let x = indication (args .h) (args .packet .now) in
-    chosen-is (args .t) _ _ (sym (index-no-area l x (not-false _ (c .before .before .if4 .left)) (λ b. rw (c .enum-told2 .given .1)))) (dynamic-kind (args .t))
-    ∙ chosen-by-index (args .t) x
+returns-7 c = elsewhere (c .before .before) (λ b. rw (c .enum-told2 .given .1))
 
 pub chosen-for-spec : {M : Type 1} → statement M
 chosen-for-spec =
