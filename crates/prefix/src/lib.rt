@@ -33,7 +33,7 @@ fn bit_count(len: u8) -> usize
     ensures { λ r. ⌜ r ≡ min len 128 ⌝ }
 {
     if LONGEST <= len {
-        return 128;
+        return LONGEST as usize;
     }
     len as usize
 }
