@@ -140,7 +140,7 @@ indexOf l = Linked (record { 0 = indexNumber l })
 abbrev pub chosenFor : Table → Indication → Chosen
 chosenFor t x = record { index = record { 0 = indexNumber (choose (counted t) x) }; kind = kindOf t (choose (counted t) x) }
 
--- which link an indication would take: where it is refused for no want of room, none
+-- indication-link: which link an indication would take; none where it is refused, and the room is not asked
 abbrev pub choiceOr : ℕ → PerhapsLink → Choice
 choiceOr zero link = record { number = 0; link = link }
 choiceOr (suc n) link = record { number = suc n; link = NoLink }

@@ -8,6 +8,7 @@ use links::Table;
 use traffic::Destination;
 use traffic::IndicationHead;
 use value_slots::Wanted;
+use value_slots::link_or_dynamic;
 ghost use mathlib.Core.Path.{_≡_};
 ghost use Rattle.traffic.specs.Arrives.{indication, chosenFor};
 
@@ -46,24 +47,19 @@ pub fn chosen_for(t: Table, h: IndicationHead, packet: &[u8]) -> Chosen
         let s = slot.settings;
         let to = ipv6::destination_of(packet);
         let from = ipv6::source_of(packet);
-        let found = value_slots::link_or_dynamic(t, Wanted::Reaching, s, to);
+        let found = link_or_dynamic(t, Wanted::Reaching, s, to);
         let index = found.index;
         if index.0 != LinkIndex::DGVL.0 {
             return found;
         }
-        return value_slots::link_or_dynamic(t, Wanted::Reaching, s, from);
+        return link_or_dynamic(t, Wanted::Reaching, s, from);
     }
     if !((transport == traffic::GEO_ANYCAST) | (transport == traffic::GEO_BROADCAST)) {
         return dynamic;
     }
     let d = h.destination;
     match d {
-        Destination::Within(a) => value_slots::link_or_dynamic(
-            t,
-            Wanted::SameGround,
-            of_area(a),
-            b"",
-        ),
+        Destination::Within(a) => link_or_dynamic(t, Wanted::SameGround, of_area(a), b""),
         Destination::Mid(_) => dynamic,
         Destination::Nothing => dynamic,
     }
