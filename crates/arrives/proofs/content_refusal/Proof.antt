@@ -1,5 +1,4 @@
 -- `arrives::content_refusal` meets its contract.
-use borrow.Author.Tests.{not-true, not-false}
 use borrow.Author.Needs.{needs}
 use Rattle.traffic.specs.Arrives.{contentRules}
 use Rattle.arrives.proofs.content_refusal.Statement.{statement}

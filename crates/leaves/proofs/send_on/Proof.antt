@@ -3,11 +3,10 @@ use mathlib.Core.Path.{_≡_, sym, _∙_, ap}
 use borrow.Author.Tests.{eq-eqb, ne-eqb, not-true, not-false}
 use borrow.Author.Needs.{needs}
 use Rattle.replies.specs.Rules.{refusal}
-use Rattle.ipv6.specs.declared.PerhapsMid.the-variants.{Mid as Known, Nothing as Unknown}
 use Rattle.ipv6.specs.Address.{multicast}
 use Rattle.ipv6.specs.Packet.{destination}
 use Rattle.links.specs.declared.Named.{Named}
-use Rattle.traffic.specs.Leaves.{Request, Down, request, neighbourOf, resolveRules, sending, sendOn}
+use Rattle.traffic.specs.Leaves.{Request, request, resolveRules, sending, sendOn}
 use Rattle.traffic.proofs.Laws.Send.{on-disabled, on-bad-packet, on-good-packet, many-without-area, many-sent, many-down, one-unknown, one-sent}
 use Rattle.leaves.proofs.send_on.Statement.{statement}
 use Rattle.leaves.proofs.send_on.Tie as tie
