@@ -1,2 +1,0 @@
--- The laws of the day's definitions.
-pub mod Rest
