@@ -1,2 +1,2 @@
--- The laws of the listing's loop.
-pub mod Day
+-- The law that what is written is the listing.
+pub mod Listing

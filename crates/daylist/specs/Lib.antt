@@ -1,1 +1,1 @@
-pub mod Day
+pub mod Listing

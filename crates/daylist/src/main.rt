@@ -1,62 +1,73 @@
-// RULES, The day file: prints a header and one line per record of the day file on standard input, up to 65,536 bytes.
+// RULES, The listing: the listing of the day file on standard input. What is written is the text that proved functions gave; what
+// went wrong is told on standard error, because a Rattle program can set no exit status.
+use libc::STDERR_FILENO;
 use libc::STDIN_FILENO;
 use libc::STDOUT_FILENO;
-use links::PerhapsLink;
-use links::Table;
+use listing::Written;
 ghost use mathlib.Core.Path.{_≡_};
-ghost use Rattle.daylist.specs.Day.{eveningTable};
+ghost use lib.ListN.{length};
+ghost use Rattle.replay.specs.Day.{allNumbers};
+ghost use Rattle.listing.specs.Room.{writtenOf, bufferOf};
+ghost use Rattle.daylist.specs.Listing.{linesOf};
 
-fn print(text: &[u8]) -> bool {
-    io::write_all(STDOUT_FILENO, text)
-}
+// Input past these bytes counts as missing, and they have no more records than that.
+const MOST: usize = 65536;
 
-fn print_link(link: PerhapsLink) -> bool {
-    match link {
-        PerhapsLink::Link(index) => io::print_decimal(STDOUT_FILENO, index.0 as u64),
-        PerhapsLink::Nothing => print(b"-"),
-    }
-}
-
-fn print_line(line: u64, number: u8, link: PerhapsLink, length: usize) {
-    io::print_decimal(STDOUT_FILENO, line);
-    print(b" ");
-    io::print_decimal(STDOUT_FILENO, number as u64);
-    print(b" ");
-    print_link(link);
-    print(b" ");
-    io::print_decimal(STDOUT_FILENO, length as u64);
-    print(b"\n");
-}
-
-// Prints a line for each record, and gives the table in the evening: no contract can say what is printed, but a loop that
-// forgets what a record did to the box gives another table.
-fn list(input: &[u8]) -> Table
-    ensures { λ r. ⌜ r ≡ eveningTable (now (input .entry)) ⌝ }
+// The listing's text, at the front of a lent buffer, as far as it has room for whole lines.
+fn list(input: &[u8], text: &mut [u8]) -> Written
+    ensures { λ r. ⌜ (r ≡ writtenOf (allNumbers (linesOf (now (input .entry)))) (now (text .entry))) × (now (text .exit) ≡ bufferOf (allNumbers (linesOf (now (input .entry)))) (now (text .entry))) ⌝ }
 {
-    let mut started = false;
-    let mut t = Table::plain();
-    let mut at: usize = 0;
-    let mut line: u64 = 0;
-    while at < input.len() {
-        line += 1;
-        let mut buffer = [0u8; 1294];
-        let s = replay::one_record(started, t, input, at, &mut buffer);
-        let link = s.link;
-        let table = s.table;
-        print_line(line, s.number, link, s.length);
-        if s.number == replies::RECORD_BROKEN {
-            return table;
-        }
-        t = table;
-        started = s.started;
-        at = s.next;
+    let mut out = [0u8; 1294];
+    let mut lines = [0u64; 262144];
+    let count = replay::day(octets::part(input, 0, MOST), &mut out, &mut lines);
+    listing::write(&lines[..count * listing::NUMBERS], text)
+}
+
+// Room for the longest listing: 32,768 lines of 17 bytes, of records that have two bytes each.
+fn room_for_text() -> [u8; 1048576]
+    ensures { λ r. ⌜ 1048576 ≡ length r ⌝ }
+{
+    [0; 1048576]
+}
+
+fn say(message: &[u8]) -> bool {
+    io::write_all(STDERR_FILENO, message)
+}
+
+fn show(text: &[u8]) {
+    if !io::write_all(STDOUT_FILENO, text) {
+        os::fail(b"daylist: standard output");
     }
-    t
+}
+
+// Whether something is left of an input of which `n` bytes were read: what is past the limit, or what could not be read.
+fn tell_what_is_missing(n: usize) {
+    let mut byte = [0u8; 1];
+    let got = libc::read(STDIN_FILENO, &mut byte);
+    if got < 0 {
+        os::fail(b"daylist: standard input");
+        return;
+    }
+    if got == 0 {
+        return;
+    }
+    if n < MOST {
+        say(b"daylist: standard input: reading ended early; what came later is not listed\n");
+        return;
+    }
+    say(b"daylist: the input has more than 65,536 bytes; what is past them is not listed\n");
 }
 
 fn main() {
-    print(b"rec ans link n\n");
     let mut input = io::large_buffer();
     let n = io::read_full(STDIN_FILENO, &mut input);
-    list(&input[..n]);
+    let mut text = room_for_text();
+    let written = list(&input[..n], &mut text);
+    show(octets::part(&text, 0, written.length));
+    if !written.whole {
+        say(
+            b"daylist: the listing has more than 1,048,576 bytes; what is past them is not shown\n",
+        );
+    }
+    tell_what_is_missing(n);
 }
