@@ -1,5 +1,6 @@
 // The benchmark: the proved layer and the C version replay the same day files, alternately, in one run. Of each the fastest of
-// several rounds counts. The cost of one kind of record is that of a day with many of them less that of the day without them.
+// several rounds counts. The cost of one kind of record is that of a day with many of them less that of the day without them; the
+// two days take turns too, so that a slow spell of the machine falls on both.
 #include "day.h"
 
 int printf(const char *format, ...);
@@ -8,10 +9,9 @@ struct timespec { long seconds, nanoseconds; };
 int clock_gettime(int clock, struct timespec *t);
 #define MONOTONIC 1
 
-enum { ROUNDS = 41, MANY = 500, ROOM = 1294, LARGEST = 4000000 };
+enum { ROUNDS = 101, MANY = 500, LARGEST = 4000000 };
 static const u64 NO_STOP = 1000;
 
-typedef u64 side(const u8 *input, usize length, u8 *out, usize room);
 struct cost { double c, proved; };
 static int wrong;
 
@@ -23,50 +23,73 @@ static double now(void) {
 
 static double time_of(side *replay, const struct day *d, int times) {
     static u8 out[ROOM];
+    static u64 lines[NUMBERS];
     double before = now();
-    for (int i = 0; i < times; i++) replay(d->bytes, d->length, out, ROOM);
+    for (int i = 0; i < times; i++) replay(d->bytes, d->length, out, ROOM, lines, NUMBERS);
     return (now() - before) / times;
 }
 
-// Both sides must answer alike and leave the same frame behind.
-static bool alike(const struct day *d) {
-    static u8 one[ROOM], two[ROOM];
-    memset(one, 0xaa, ROOM);
-    memset(two, 0xaa, ROOM);
-    u64 c = c_whole_day(d->bytes, d->length, one, ROOM);
-    u64 proved = gn6_whole_day(d->bytes, d->length, two, ROOM);
-    return c == proved && memcmp(one, two, ROOM) == 0;
+// Both sides must store as many lines, the same numbers in them, and leave the same buffer behind. All of the numbers and of the
+// buffer is compared, also what must stay as it was.
+static bool alike(const struct day *d, usize room, usize numbers) {
+    static u8 out[2][ROOM];
+    static u64 lines[2][NUMBERS];
+    memset(out, 0xaa, sizeof out);
+    memset(lines, 0x55, sizeof lines);
+    usize c = c_whole_day(d->bytes, d->length, out[0], room, lines[0], numbers);
+    usize proved = gn6_whole_day(d->bytes, d->length, out[1], room, lines[1], numbers);
+    return c == proved && memcmp(lines[0], lines[1], sizeof lines[0]) == 0 && memcmp(out[0], out[1], ROOM) == 0;
+}
+
+// A day that is timed must have fewer lines than there is room for.
+static bool fits(const struct day *d) {
+    static u8 out[ROOM];
+    static u64 lines[NUMBERS];
+    return c_whole_day(d->bytes, d->length, out, ROOM, lines, NUMBERS) < NUMBERS / 4;
 }
 
 #ifdef COUNT_COPIES
 // The same driver linked with copies.c counts copies of the table instead of time.
 u64 copies_of(side *replay, const struct day *d);
 
-static struct cost cost_of(const struct day *d) {
-    struct cost x = { (double)copies_of(c_whole_day, d), (double)copies_of(gn6_whole_day, d) };
-    return x;
+static void costs_of(const struct day *d, int days, struct cost *cost) {
+    for (int k = 0; k < days; k++) {
+        cost[k].c = (double)copies_of(c_whole_day, &d[k]);
+        cost[k].proved = (double)copies_of(gn6_whole_day, &d[k]);
+    }
 }
 
 static void print_row(const char *name, struct cost x) { printf("%-52s %9.0f %9.0f\n", name, x.c, x.proved); }
 #else
-// Nanoseconds for the whole day, as many times as make a millisecond.
-static struct cost cost_of(const struct day *d) {
-    struct cost best = { 1e18, 1e18 };
-    if (!alike(d)) wrong++;
-    int times = (int)(1e6 / (time_of(c_whole_day, d, 1) + 1)) + 1;
-    for (int i = 0; i < ROUNDS; i++) {
-        double c = time_of(c_whole_day, d, times);
-        double proved = time_of(gn6_whole_day, d, times);
-        if (c < best.c) best.c = c;
-        if (proved < best.proved) best.proved = proved;
+static void keep_the_faster(struct cost *best, const struct day *d, int times) {
+    double c = time_of(c_whole_day, d, times);
+    double proved = time_of(gn6_whole_day, d, times);
+    if (c < best->c) best->c = c;
+    if (proved < best->proved) best->proved = proved;
+}
+
+// Nanoseconds for each of the days, in each round as many times as make a millisecond.
+static void costs_of(const struct day *d, int days, struct cost *cost) {
+    int times[2];
+    for (int k = 0; k < days; k++) {
+        if (!alike(&d[k], ROOM, NUMBERS) || !fits(&d[k])) wrong++;
+        times[k] = (int)(1e6 / (time_of(c_whole_day, &d[k], 1) + 1)) + 1;
+        cost[k].c = cost[k].proved = 1e18;
     }
-    return best;
+    for (int i = 0; i < ROUNDS; i++)
+        for (int k = 0; k < days; k++) keep_the_faster(&cost[k], &d[k], times[k]);
 }
 
 static void print_row(const char *name, struct cost x) {
     printf("%-52s %9.1f %9.1f %7.2f\n", name, x.c, x.proved, x.proved / x.c);
 }
 #endif
+
+static struct cost cost_of(const struct day *d) {
+    struct cost x;
+    costs_of(d, 1, &x);
+    return x;
+}
 
 static struct day new_day(u64 stops) {
     struct day d = { malloc(LARGEST), 0 };
@@ -99,11 +122,11 @@ static void put_work(struct day *d, enum work w, u64 stop, usize length) {
 
 // The cost of one piece of work on a table with some stops enabled.
 static struct cost one(enum work w, u64 stops, u64 stop, usize length) {
-    struct day d = new_day(stops);
-    struct cost without = cost_of(&d);
-    for (int i = 0; i < MANY; i++) put_work(&d, w, stop, length);
-    struct cost with = cost_of(&d);
-    struct cost x = { (with.c - without.c) / MANY, (with.proved - without.proved) / MANY };
+    struct day without_and_with[2] = { new_day(stops), new_day(stops) };
+    struct cost cost[2];
+    for (int i = 0; i < MANY; i++) put_work(&without_and_with[1], w, stop, length);
+    costs_of(without_and_with, 2, cost);
+    struct cost x = { (cost[1].c - cost[0].c) / MANY, (cost[1].proved - cost[0].proved) / MANY };
     return x;
 }
 
@@ -162,7 +185,8 @@ static void print_growth(void) {
     print_row("request, packet of 1,280 bytes", one(UNICAST, 64, 63, 1280));
 }
 
-// Days with a few bytes changed at random: both sides must answer alike there too.
+// Days with a few bytes changed at random: both sides must answer alike there too. A fifth of them get room for a few lines only, and
+// a seventh a buffer that is too short for some of the frames, or for all.
 static void compare_damaged_days(int count) {
     u64 seed = 1;
     struct day d = new_day(5);
@@ -175,7 +199,7 @@ static void compare_damaged_days(int count) {
             e.bytes[(seed >> 33) % d.length] = (u8)(k % 2 ? seed >> 25 : (seed >> 25) % 8);
         }
         e.length = i % 3 ? d.length : (seed >> 40) % d.length; // a third of them are cut
-        if (!alike(&e)) wrong++;
+        if (!alike(&e, i % 7 ? ROOM : (seed >> 45) % 80, i % 5 ? NUMBERS : (seed >> 50) % 80)) wrong++;
     }
     printf("%d damaged days compared\n", count);
 }
@@ -190,9 +214,9 @@ int main(void) {
     print_table_calls();
     print_indications();
     print_requests_and_reading();
-#ifndef COUNT_COPIES
     printf("growth\n");
     print_growth();
+#ifndef COUNT_COPIES
     printf("days on which the two sides differ: %d\n", wrong);
 #endif
     return wrong != 0;

@@ -1,8 +1,8 @@
-// Counts the copies of a table that each kind of record makes: the C library's memcpy, memmove and memset are replaced by ones
-// that count the calls for 2 KiB or more. A table has 2,864 bytes, and nothing else that is copied is as long.
+// Counts the copies of a table that each kind of record makes: the C library's memcpy and memmove are replaced by ones that count
+// the calls for 2 KiB or more. A table has 2,864 bytes, and nothing else that is copied is as long. memset is replaced with them
+// and counts nothing: to fill a table is no copy.
 #include "day.h"
 
-int printf(const char *format, ...);
 static u64 copies;
 
 void *memcpy(void *to, const void *from, usize n) {
@@ -23,9 +23,10 @@ void *memset(void *to, int value, usize n) {
     return to;
 }
 
-u64 copies_of(u64 (*replay)(const u8 *, usize, u8 *, usize), const struct day *d) {
-    static u8 out[1294];
+u64 copies_of(side *replay, const struct day *d) {
+    static u8 out[ROOM];
+    static u64 lines[NUMBERS];
     copies = 0;
-    replay(d->bytes, d->length, out, 1294);
+    replay(d->bytes, d->length, out, ROOM, lines, NUMBERS);
     return copies;
 }

@@ -14,9 +14,16 @@ void *memcpy(void *to, const void *from, usize n);
 int memcmp(const void *a, const void *b, usize n);
 void *memset(void *to, int value, usize n);
 
-// The checksum of the lines that a day's listing has; every indication is lent `out`.
-u64 c_whole_day(const u8 *input, usize length, u8 *out, usize room);   // day.c
-u64 gn6_whole_day(const u8 *input, usize length, u8 *out, usize room); // crates/whole_day
+// Replays a day; every indication is lent `out`. Each line of the listing is stored in `lines` as four numbers: the reply; 1 if
+// the line has a link, else 0; the link's index, or 0 where there is none; the length. It stops where `lines` has no room for four
+// more, at the end of the input, or behind a broken record (reply 14, its offset as length). Returns how many lines it stored;
+// numbers past these stay as they were.
+typedef usize side(const u8 *input, usize length, u8 *out, usize room, u64 *lines, usize numbers);
+side c_whole_day;   // day.c
+side gn6_whole_day; // crates/whole_day
+
+// What is lent to a side: a buffer of the length that the rules name, and room for more lines than any day here has.
+enum { ROOM = 1294, NUMBERS = 4 * 2048 };
 
 // A day file as it is made (make.c).
 struct day { u8 *bytes; usize length; };

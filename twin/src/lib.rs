@@ -17,6 +17,7 @@ pub mod table;
 pub mod listing;
 pub mod read;
 pub mod replay;
+pub mod requests;
 pub mod write;
 
 pub mod compare;

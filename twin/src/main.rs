@@ -1,4 +1,5 @@
-//! `twin list`, `twin edges`, `twin compare`, `twin generate`: see README.md.
+//! `twin list`, `twin requests`, `twin edges`, `twin compare`, `twin generate`:
+//! see README.md.
 
 use std::io::{self, Read, Write};
 use std::process::ExitCode;
@@ -7,8 +8,10 @@ use twin::compare::{self, Options};
 use twin::edges;
 use twin::generate::day_file;
 use twin::listing::{listing, MOST_INPUT};
+use twin::requests;
 
 const USAGE: &str = "usage: twin list < DAYFILE
+       twin requests < DAYFILE
        twin edges
        twin compare --daylist PATH [--files N] [--seed S] [--feed-in-pieces]
        twin generate [--seed S] --file N > DAYFILE";
@@ -16,7 +19,8 @@ const USAGE: &str = "usage: twin list < DAYFILE
 fn main() -> ExitCode {
     let arguments: Vec<String> = std::env::args().skip(1).collect();
     let outcome = match arguments.first().map(String::as_str) {
-        Some("list") => list(),
+        Some("list") => print_of_input(listing),
+        Some("requests") => print_of_input(|input| requests::print(&requests::requests(input))),
         Some("edges") => Ok(show_edges()),
         Some("compare") => Options::parse(&arguments[1..]).map(|options| compare::run(&options)),
         Some("generate") => generate(&arguments[1..]),
@@ -32,12 +36,12 @@ fn main() -> ExitCode {
     }
 }
 
-/// Prints the listing of standard input.
-fn list() -> Result<bool, String> {
+/// Prints a text made of the day file on standard input.
+fn print_of_input(text_of: impl Fn(&[u8]) -> String) -> Result<bool, String> {
     let mut input = Vec::new();
     let reading = io::stdin().lock().take(MOST_INPUT as u64).read_to_end(&mut input);
     reading.map_err(|error| format!("standard input: {error}"))?;
-    print_bytes(listing(&input).as_bytes())
+    print_bytes(text_of(&input).as_bytes())
 }
 
 /// Prints one line per case; false if one differs.

@@ -1,0 +1,80 @@
+//! What each request of a day sends down (`request-reply`): transport,
+//! destination and class have no column in the listing.
+
+use std::fmt::Write;
+
+use crate::area::Area;
+use crate::call::{Call, Destination};
+use crate::leaving::{Request, Sending};
+use crate::listing::up_to_the_limit;
+use crate::mid::mac_bytes;
+use crate::read::read_record;
+use crate::replay::Replay;
+use crate::reply::{Refusal, DONE};
+
+const HEADER: &str = "rec ans transport destination class n";
+
+/// The number of a request's record in the listing, and what the call replied.
+#[derive(Clone, Copy, Debug, PartialEq, Eq)]
+pub struct Sent {
+    pub record: usize,
+    pub outcome: Result<Sending, Refusal>,
+}
+
+/// One for each whole request record, up to the first broken record.
+pub fn requests(input: &[u8]) -> Vec<Sent> {
+    let bytes = up_to_the_limit(input);
+    let mut sent = Vec::new();
+    let mut replay = Replay::default();
+    let (mut record, mut offset) = (1, 0);
+    while let Ok((call, behind)) = read_record(bytes, offset) {
+        if let Call::Request(request) = call {
+            sent.push(Sent { record, outcome: ask(&replay, &request) });
+        }
+        replay.call(&call);
+        (record, offset) = (record + 1, behind);
+    }
+    sent
+}
+
+/// `record-order`: 16 before the call's own refusals.
+fn ask(replay: &Replay, request: &Request) -> Result<Sending, Refusal> {
+    replay.table().ok_or(Refusal::StartOutOfPlace)?.request(request)
+}
+
+/// A header, and one line for each request; `rec`, `ans` and `n` are those of
+/// the listing.
+pub fn print(requests: &[Sent]) -> String {
+    let mut text = format!("{HEADER}\n");
+    for Sent { record, outcome } in requests {
+        // Writing to a string cannot fail.
+        let _ = match outcome {
+            Ok(sending) => writeln!(text, "{record} {DONE} {}", columns(sending)),
+            Err(refusal) => writeln!(text, "{record} {} - - - 0", refusal.number()),
+        };
+    }
+    text
+}
+
+fn columns(sending: &Sending) -> String {
+    let Sending { transport, destination, class, length } = sending;
+    format!("{transport} {} {class} {length}", destination_column(destination))
+}
+
+/// A MID as a MAC address, the six numbers of an area, or `nothing`.
+fn destination_column(destination: &Destination) -> String {
+    match destination {
+        Destination::Mid(mid) => mac_bytes(*mid).map(|byte| format!("{byte:02X}")).join(":"),
+        Destination::Area(area) => area_column(area),
+        Destination::Nothing => "nothing".to_string(),
+    }
+}
+
+/// `area-numbers`, in their order.
+fn area_column(area: &Area) -> String {
+    let Area { shape, latitude, longitude, a, b, angle } = area;
+    format!("{shape},{latitude},{longitude},{a},{b},{angle}")
+}
+
+#[cfg(test)]
+mod tests;
