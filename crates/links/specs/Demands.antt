@@ -4,16 +4,17 @@ use mathlib.Core.Path.{_≡_}
 use mathlib.Core.Logic.{_≢_}
 use mathlib.Core.Bool.{true}
 use mathlib.Core.List.{List}
-use lib.ListN.{getD}
+use lib.ListN.{length, getD, drop}
 use Rattle.replies.specs.Rules.{Exact}
 use Rattle.links.specs.declared.PerhapsArea.{PerhapsArea}
-use Rattle.links.specs.declared.PerhapsLink.the-variants.{Nothing}
+use Rattle.links.specs.declared.PerhapsArea.the-variants.{Unset}
+use Rattle.links.specs.declared.PerhapsLink.the-variants.{Link, Nothing}
 use Rattle.links.specs.declared.Settings.{Settings}
 use Rattle.links.specs.declared.Slot.{Slot}
 use Rattle.links.specs.declared.StartValues.{StartValues}
 use Rattle.links.specs.declared.Table.{Table}
 use Rattle.links.specs.Slots.{free, inUse, counted}
-use Rattle.links.specs.Calls.{TableCall, enable, disable, setArea, setOwn, rules, reply, linkOf, withArea, withOwn, startValues, fresh, plainStart, start}
+use Rattle.links.specs.Calls.{TableCall, enable, disable, setArea, setOwn, rules, reply, startValues, start}
 use Rattle.links.specs.Reached.{Reached}
 
 -- Demand 1: bad input gets its number in the rules' order, and a refusal changes nothing
@@ -21,15 +22,33 @@ pub record Refuses (t : Table) (c : TableCall) : Type 0 where
   pub exact : Exact (rules (counted t) c) (reply t c .number)
   pub unchanged : reply t c .number ≢ 0 → (reply t c .table ≡ t) × (reply t c .link ≡ Nothing)
 
--- of a start: a refused one gives the plain table
+-- the table of these values without a stop link, in some memory: the slots that count are free, and those past them as they were
+pub record Empty (memory : List Slot) (v : StartValues) (t : Table) : Type 0 where
+  pub own : t .own ≡ v .own
+  pub max : t .max ≡ v .max
+  pub tvl : t .tvl ≡ v .tvl
+  pub dgvl : t .dgvl ≡ v .dgvl
+  pub area : t .area ≡ Unset
+  pub noStop : (j : ℕ) → getD (counted t) j free ≡ free
+  pub size : length (t .slots) ≡ length memory
+  pub rest : drop (t .max - 1) (t .slots) ≡ drop (t .max - 1) memory
+
+-- of a start: a refused one gives no link, and the table for own MID 0, maximum 2, fixed links of kind 1 and flag 1
 pub record RefusesStart (most : ℕ) (memory : List Slot) (v : StartValues) : Type 0 where
   pub exact : Exact (startValues most v) (start most memory v .number)
-  pub plainTable : start most memory v .number ≢ 0 → start most memory v .table ≡ fresh memory plainStart
+  pub noLink : start most memory v .number ≢ 0 → start most memory v .link ≡ Nothing
+  pub plainTable : start most memory v .number ≢ 0
+      → Empty memory (record { own = 0; max = 2; tvl = record { kind = 1; flag = 1 }; dgvl = record { kind = 1; flag = 1 } }) (start most memory v .table)
 
 unfoldable pub TableDemand1 : Type 0
 TableDemand1 = ((t : Table) (c : TableCall) → Refuses t c) × ((most : ℕ) (memory : List Slot) (v : StartValues) → RefusesStart most memory v)
 
--- Demand 2: the table that a call leaves is the definition's. What a reader would ask of the definition:
+-- Demand 2: the table that a call leaves is the definition's. What a reader would ask of the definition, field by field:
+
+-- a start that answers 0 gives the table of its values, with no stop link
+pub record Starts (most : ℕ) (memory : List Slot) (v : StartValues) : Type 0 where
+  pub noLink : start most memory v .link ≡ Nothing
+  pub table : Empty memory v (start most memory v .table)
 
 -- the two tables differ in slot k alone
 pub record DifferAt (k : ℕ) (t u : Table) : Type 0 where
@@ -39,10 +58,12 @@ pub record DifferAt (k : ℕ) (t u : Table) : Type 0 where
   pub dgvl : t .dgvl ≡ u .dgvl
   pub area : t .area ≡ u .area
   pub others : (j : ℕ) → j ≢ k → getD (counted t) j free ≡ getD (counted u) j free
+  pub size : length (t .slots) ≡ length (u .slots)
+  pub rest : drop (t .max - 1) (t .slots) ≡ drop (t .max - 1) (u .slots)
 
 -- an enable that answers 0 adds exactly its link, at the lowest unused index
 pub record Adds (t : Table) (s : Settings) (k : ℕ) : Type 0 where
-  pub link : reply t (enable s) .link ≡ linkOf k
+  pub link : reply t (enable s) .link ≡ Link (record { 0 = k + 2 })
   pub within : k + 2 ≤ t .max
   pub lower : (j : ℕ) → j < k → getD (counted t) j free .enabled ≡ true
   pub unused : getD (counted t) k free ≡ free
@@ -52,14 +73,26 @@ pub record Adds (t : Table) (s : Settings) (k : ℕ) : Type 0 where
 -- a disable that answers 0 removes exactly its link
 pub record Removes (t : Table) (i : ℕ) : Type 0 where
   pub stop : 2 ≤ i
+  pub noLink : reply t (disable i) .link ≡ Nothing
   pub was : getD (counted t) (i - 2) free .enabled ≡ true
   pub gone : getD (counted (reply t (disable i) .table)) (i - 2) free ≡ free
   pub alone : DifferAt (i - 2) t (reply t (disable i) .table)
 
+-- a call that leaves the table with this own MID and this area, and else as it was
+pub record Sets (t : Table) (c : TableCall) (mid : ℕ) (a : PerhapsArea) : Type 0 where
+  pub noLink : reply t c .link ≡ Nothing
+  pub own : reply t c .table .own ≡ mid
+  pub max : reply t c .table .max ≡ t .max
+  pub tvl : reply t c .table .tvl ≡ t .tvl
+  pub dgvl : reply t c .table .dgvl ≡ t .dgvl
+  pub area : reply t c .table .area ≡ a
+  pub slots : reply t c .table .slots ≡ t .slots
+
 unfoldable pub TableDemand2 : Type 0
 TableDemand2 =
-    (most : ℕ) (memory : List Slot) (t : Table) → Reached most memory t →
+    ((most : ℕ) (memory : List Slot) (v : StartValues) → start most memory v .number ≡ 0 → Starts most memory v)
+    × ((most : ℕ) (memory : List Slot) (t : Table) → Reached most memory t →
     ((s : Settings) → reply t (enable s) .number ≡ 0 → (k : ℕ) × Adds t s k)
     × ((i : ℕ) → reply t (disable i) .number ≡ 0 → Removes t i)
-    × ((a : PerhapsArea) → reply t (setArea a) .number ≡ 0 → reply t (setArea a) .table ≡ withArea t a)
-    × ((m : ℕ) → reply t (setOwn m) .number ≡ 0 → reply t (setOwn m) .table ≡ withOwn t m)
+    × ((a : PerhapsArea) → reply t (setArea a) .number ≡ 0 → Sets t (setArea a) (t .own) a)
+    × ((m : ℕ) → reply t (setOwn m) .number ≡ 0 → Sets t (setOwn m) m (t .area)))

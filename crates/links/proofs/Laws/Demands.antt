@@ -5,11 +5,12 @@ use mathlib.Core.Path.{_≡_, refl, sym, _∙_, ap, subst}
 use mathlib.Core.Logic.{_≢_}
 use mathlib.Core.Bool.{true}
 use mathlib.Core.List.{List}
-use lib.ListN.{length, getD, set}
-use lib.Seq.{getD-set-same, getD-set-other}
+use lib.ListN.{length, drop, getD, set, length-set, length-take}
+use lib.Seq.{getD-set-same, getD-set-other, drop-set-lt}
 use borrow.Author.Tests.{ltb-true, ltb-false, not-true, not-false}
 use Rattle.replies.specs.Rules.{refusal, None, Exact}
 use Rattle.replies.proofs.Laws.Refusals.{done-exactly, none-right, exact}
+use Rattle.links.specs.declared.PerhapsArea.{PerhapsArea}
 use Rattle.links.specs.declared.PerhapsLink.the-variants.{Nothing}
 use Rattle.links.specs.declared.Reply.{Reply}
 use Rattle.links.specs.declared.Settings.{Settings}
@@ -18,12 +19,12 @@ use Rattle.links.specs.declared.StartValues.{StartValues}
 use Rattle.links.specs.declared.Table.{Table}
 use Rattle.links.specs.Settings.{settingsRules}
 use Rattle.links.specs.Slots.{free, inUse, counted, slotAt, any, place, unused}
-use Rattle.links.specs.Calls.{TableCall, enable, disable, setArea, setOwn, slotRules, rules, linkAfter, tableAfter, answer, reply, withSlot, startValues, fresh, plainStart, begin, start}
+use Rattle.links.specs.Calls.{TableCall, enable, disable, setArea, setOwn, slotRules, rules, linkAfter, tableAfter, answer, reply, withSlot, withArea, withOwn, startValues, fresh, plainStart, begin, start}
 use Rattle.links.specs.Reached.{Sound}
-use Rattle.links.specs.Demands.{Refuses, RefusesStart, TableDemand1, DifferAt, Adds, Removes, TableDemand2}
+use Rattle.links.specs.Demands.{Refuses, Empty, RefusesStart, TableDemand1, Starts, DifferAt, Adds, Removes, Sets, TableDemand2}
 use Rattle.links.proofs.Laws.Search.{any-place, before-place, at-place}
 use Rattle.links.proofs.Laws.Counted.{enabled-below, slot-of-stop}
-use Rattle.links.proofs.Laws.Slots.{counted-with}
+use Rattle.links.proofs.Laws.Slots.{counted-with, cleared-blank, cleared-length, cleared-rest}
 use Rattle.links.proofs.Laws.Replies.{numbered, start-numbered, done}
 use Rattle.links.proofs.Laws.Sound.{sound}
 
@@ -48,22 +49,51 @@ begin-number : (n : ℕ) (memory : List Slot) (v : StartValues) → begin n memo
 begin-number zero memory v = refl
 begin-number (suc n) memory v = refl
 
-begin-plain : (n : ℕ) (memory : List Slot) (v : StartValues) → begin n memory v .number ≢ 0 → begin n memory v .table ≡ fresh memory plainStart
-begin-plain zero memory v h = absurd (h refl)
-begin-plain (suc n) memory v h = refl
+-- the fresh table has no stop link
+fresh-empty : (memory : List Slot) (v : StartValues) → Empty memory v (fresh memory v)
+unfolding fresh
+fresh-empty memory v = record {
+  own = refl;
+  max = refl;
+  tvl = refl;
+  dgvl = refl;
+  area = refl;
+  noStop = cleared-blank (v .max - 1) memory;
+  size = cleared-length (v .max - 1) memory;
+  rest = cleared-rest (v .max - 1) memory;
+}
+
+begin-refused : (n : ℕ) (memory : List Slot) (v : StartValues) → begin n memory v .number ≢ 0
+    → (begin n memory v .link ≡ Nothing) × Empty memory plainStart (begin n memory v .table)
+begin-refused zero memory v h = absurd (h refl)
+begin-refused (suc n) memory v h = (refl, fresh-empty memory plainStart)
+
+begin-done : (n : ℕ) (memory : List Slot) (v : StartValues) → begin n memory v .number ≡ 0
+    → (begin n memory v .link ≡ Nothing) × Empty memory v (begin n memory v .table)
+begin-done zero memory v e = (refl, fresh-empty memory v)
+begin-done (suc n) memory v e = absurd (omega arith)
 
 pub refuses-start : (most : ℕ) (memory : List Slot) (v : StartValues) → RefusesStart most memory v
 unfolding start
-refuses-start most memory v = record {
-  exact = subst (Exact (startValues most v)) (sym (begin-number (refusal (startValues most v)) memory v)) (exact (startValues most v) (start-numbered most v));
-  plainTable = begin-plain (refusal (startValues most v)) memory v;
-}
+refuses-start most memory v =
+    let n = refusal (startValues most v) in
+    record {
+      exact = subst (Exact (startValues most v)) (sym (begin-number n memory v)) (exact (startValues most v) (start-numbered most v));
+      noLink = λ h. begin-refused n memory v h .0;
+      plainTable = λ h. begin-refused n memory v h .1;
+    }
 
 pub table-demand-1 : TableDemand1
 unfolding TableDemand1
 table-demand-1 = (refuses, refuses-start)
 
 -- Demand 2
+
+starts : (most : ℕ) (memory : List Slot) (v : StartValues) → start most memory v .number ≡ 0 → Starts most memory v
+unfolding start
+starts most memory v e =
+    let done = begin-done (refusal (startValues most v)) memory v e in
+    record { noLink = done .0; table = done .1 }
 
 -- an answer 0: no rule holds, and the table is the one after the call
 module _ (t : Table) (c : TableCall) (e : reply t c .number ≡ 0) where
@@ -88,14 +118,16 @@ module _ (t u : Table) (k : ℕ) (x : Slot) (e : u ≡ withSlot t k x) where
   at-k : k < length (counted t) → getD (counted u) k free ≡ x
   at-k h = ap (λ (l : List Slot). getD l k free) run-is ∙ getD-set-same (counted t) k x free h
 
-  differ : DifferAt k t u
-  differ = record {
+  differ : k < length (counted t) → DifferAt k t u
+  differ h = record {
     own = sym (ap (λ (v : Table). v .own) e);
     max = sym (ap (λ (v : Table). v .max) e);
     tvl = sym (ap (λ (v : Table). v .tvl) e);
     dgvl = sym (ap (λ (v : Table). v .dgvl) e);
     area = sym (ap (λ (v : Table). v .area) e);
     others = λ j n. sym (ap (λ (l : List Slot). getD l j free) run-is ∙ getD-set-other (counted t) k j x free n);
+    size = sym (ap (λ (v : Table). length (v .slots)) e ∙ length-set (t .slots) k x);
+    rest = sym (ap (λ (v : Table). drop (t .max - 1) (v .slots)) e ∙ drop-set-lt (t .max - 1) (t .slots) k x (omega (arith, simp length-take at h)));
   }
 
 module _ (most : ℕ) (memory : List Slot) (t : Table) (h : Sound most memory t) where
@@ -114,26 +146,47 @@ module _ (most : ℕ) (memory : List Slot) (t : Table) (h : Sound most memory t)
           lower = λ j b. not-false _ (before-place unused l j free b);
           unused = h .blank k (not-true _ (at-place unused l free below));
           there = at-k t (reply t (enable s) .table) k (inUse s) now-is below;
-          alone = differ t (reply t (enable s) .table) k (inUse s) now-is;
+          alone = differ t (reply t (enable s) .table) k (inUse s) now-is below;
         },
       )
 
   removes : (i : ℕ) → reply t (disable i) .number ≡ 0 → Removes t i
-  unfolding rules tableAfter
+  unfolding rules tableAfter linkAfter
   removes i e =
       let l = counted t in
       let none = none-holds t (disable i) e in
       let stop : 2 ≤ i = ltb-false i 2 (none .0) in
       let on : getD l (i - 2) free .enabled ≡ true = rw (slot-of-stop l i stop) at (not-false (slotAt l i .enabled) (none .1 .0)) in
+      let below = enabled-below l (i - 2) on in
       let now-is = table-is t (disable i) e in
       record {
         stop = stop;
+        noLink = link-is t (disable i) e;
         was = on;
-        gone = at-k t (reply t (disable i) .table) (i - 2) free now-is (enabled-below l (i - 2) on);
-        alone = differ t (reply t (disable i) .table) (i - 2) free now-is;
+        gone = at-k t (reply t (disable i) .table) (i - 2) free now-is below;
+        alone = differ t (reply t (disable i) .table) (i - 2) free now-is below;
       }
 
+-- own MID and area are set, and nothing else
+sets : (t : Table) (c : TableCall) (mid : ℕ) (a : PerhapsArea) → reply t c .link ≡ Nothing → reply t c .table ≡ withArea (withOwn t mid) a → Sets t c mid a
+sets t c mid a none e = record {
+  noLink = none;
+  own = ap (λ (u : Table). u .own) e;
+  max = ap (λ (u : Table). u .max) e;
+  tvl = ap (λ (u : Table). u .tvl) e;
+  dgvl = ap (λ (u : Table). u .dgvl) e;
+  area = ap (λ (u : Table). u .area) e;
+  slots = ap (λ (u : Table). u .slots) e;
+}
+
 pub table-demand-2 : TableDemand2
-unfolding TableDemand2 tableAfter
-table-demand-2 most memory t r =
-    (adds most memory t (sound r), removes most memory t (sound r), λ a e. table-is t (setArea a) e, λ m e. table-is t (setOwn m) e)
+unfolding TableDemand2 tableAfter linkAfter
+table-demand-2 = (
+  starts,
+  λ most memory t r. (
+    adds most memory t (sound r),
+    removes most memory t (sound r),
+    λ a e. sets t (setArea a) (t .own) a (link-is t (setArea a) e) (table-is t (setArea a) e),
+    λ m e. sets t (setOwn m) m (t .area) (link-is t (setOwn m) e) (table-is t (setOwn m) e),
+  ),
+)
