@@ -89,7 +89,7 @@ rows =
     ∷ (startWith 65 .number is 0)
     ∷ (startWith 66 .number is 1)
     -- edge-index: links 2, 3, 4 enabled, 3 disabled: the next enabled gets 3
-    ∷ (given (startWith 65 .table) (enable (stop 1) ∷ enable (stop 2) ∷ enable (stop 3) ∷ disable 3 ∷ enable (stop 4) ∷ [])
+    ∷ (given (startWith 65 .table) (enable (stop 1) ∷ enable (stop 2) ∷ enable (stop 3) ∷ disable (record { 0 = 3 }) ∷ enable (stop 4) ∷ [])
     are (2 ∷ 3 ∷ 4 ∷ 0 ∷ 3 ∷ []))
     -- edge-address: own MID 02:00:00:00:00:01 gives fe80::ff:fe00:1, and back
     ∷ (linkLocal 0x020000000001 are (0xfe ∷ 0x80 ∷ replicate 9 0 ++ 0xff ∷ 0xfe ∷ 0 ∷ 0 ∷ 1 ∷ []))

@@ -1,14 +1,15 @@
 -- The calls that alter the table: their refusals in the rules' order, and what they do where they are not refused.
-use Prim.Native.Nat.{ℕ, zero, suc, _+_, _-_}
+use Prim.Native.Nat.{ℕ, zero, suc, _-_}
 use mathlib.Core.Bool.{Bool, true, not, _&&_}
 use mathlib.Core.List.{List, [], _∷_, _++_}
-use lib.Dec.{leb, ltb}
+use lib.Dec.{leb}
 use lib.ListN.{set}
 use Rattle.replies.specs.Rules.{Rule, _if_, _then_, refusal}
 use Rattle.area.specs.Area.{goodArea}
 use Rattle.links.specs.declared.PerhapsArea.{PerhapsArea}
 use Rattle.links.specs.declared.PerhapsArea.the-variants.{Set, Unset}
 use Rattle.links.specs.declared.Interface.{Interface}
+use Rattle.links.specs.declared.LinkIndex.{LinkIndex}
 use Rattle.links.specs.declared.PerhapsLink.{PerhapsLink}
 use Rattle.links.specs.declared.PerhapsLink.the-variants.{Link, Nothing}
 use Rattle.links.specs.declared.Reply.{Reply}
@@ -17,11 +18,11 @@ use Rattle.links.specs.declared.Slot.{Slot}
 use Rattle.links.specs.declared.StartValues.{StartValues}
 use Rattle.links.specs.declared.Table.{Table}
 use Rattle.links.specs.Settings.{midOk, interfaceOk, settingsRules, sameGround, overlaps}
-use Rattle.links.specs.Slots.{free, valueSlots, inUse, counted, slotAt, any, place, unused, with}
+use Rattle.links.specs.Slots.{firstStop, isFixed, indexAt, placeOf, free, valueSlots, inUse, counted, slotAt, any, place, unused, with}
 
 pub data TableCall : Type 0 where
   enable : Settings → TableCall
-  disable : ℕ → TableCall
+  disable : LinkIndex → TableCall
   setArea : PerhapsArea → TableCall
   setOwn : ℕ → TableCall
 
@@ -41,7 +42,7 @@ slotRules l s =
 unfoldable pub rules : List Slot → TableCall → List Rule
 rules l (enable s) = settingsRules s ++ slotRules l s
 rules l (disable i) =
-    15 if ltb i 2
+    15 if isFixed i
     then 7 if not (slotAt l i .enabled)
     then []
 rules l (setArea a) = 2 if not (goodDynamic a) then []
@@ -78,19 +79,16 @@ withOwn t m = record {
   slots = t .slots;
 }
 
-abbrev pub linkOf : ℕ → PerhapsLink
-linkOf k = Link (record { 0 = k + 2 })
-
 -- link-lowest-index: an enable takes it; of the others none gives a link
 unfoldable pub linkAfter : List Slot → TableCall → PerhapsLink
-linkAfter l (enable s) = linkOf (place unused l)
+linkAfter l (enable s) = Link (indexAt (place unused l))
 linkAfter l (disable i) = Nothing
 linkAfter l (setArea a) = Nothing
 linkAfter l (setOwn m) = Nothing
 
 unfoldable pub tableAfter : Table → TableCall → Table
 tableAfter t (enable s) = withSlot t (place unused (counted t)) (inUse s)
-tableAfter t (disable i) = withSlot t (i - 2) free
+tableAfter t (disable i) = withSlot t (placeOf i) free
 tableAfter t (setArea a) = withArea t a
 tableAfter t (setOwn m) = withOwn t m
 
@@ -102,11 +100,11 @@ answer (suc n) t c = record { number = suc n; link = Nothing; table = t }
 unfoldable pub reply : Table → TableCall → Reply
 reply t c = answer (refusal (rules (counted t) c)) t c
 
--- link-maximum: the least is 2, and `most` the largest
+-- link-maximum: the least is the first stop's index, and `most` the largest
 abbrev pub startOk : ℕ → StartValues → Bool
 startOk most v =
     midOk (v .own)
-    && leb 2 (v .max)
+    && leb (firstStop .0) (v .max)
     && leb (v .max) most
     && interfaceOk (v .tvl)
     && interfaceOk (v .dgvl)

@@ -6,6 +6,7 @@ use mathlib.Core.Bool.{true}
 use mathlib.Core.List.{List}
 use lib.ListN.{length, getD, drop}
 use Rattle.replies.specs.Rules.{Exact}
+use Rattle.links.specs.declared.LinkIndex.{LinkIndex}
 use Rattle.links.specs.declared.PerhapsArea.{PerhapsArea}
 use Rattle.links.specs.declared.PerhapsArea.the-variants.{Unset}
 use Rattle.links.specs.declared.PerhapsLink.the-variants.{Link, Nothing}
@@ -43,7 +44,8 @@ pub record RefusesStart (most : ℕ) (memory : List Slot) (v : StartValues) : Ty
 unfoldable pub TableDemand1 : Type 0
 TableDemand1 = ((t : Table) (c : TableCall) → Refuses t c) × ((most : ℕ) (memory : List Slot) (v : StartValues) → RefusesStart most memory v)
 
--- Demand 2: the table that a call leaves is the definition's. What a reader would ask of the definition, field by field:
+-- Demand 2: the table that a call leaves is the definition's. What a reader would ask of the definition, field by field,
+-- with slot k as the record of index k + 2:
 
 -- a start that answers 0 gives the table of its values, with no stop link
 pub record Starts (most : ℕ) (memory : List Slot) (v : StartValues) : Type 0 where
@@ -71,12 +73,12 @@ pub record Adds (t : Table) (s : Settings) (k : ℕ) : Type 0 where
   pub alone : DifferAt k t (reply t (enable s) .table)
 
 -- a disable that answers 0 removes exactly its link
-pub record Removes (t : Table) (i : ℕ) : Type 0 where
-  pub stop : 2 ≤ i
+pub record Removes (t : Table) (i : LinkIndex) : Type 0 where
+  pub stop : 2 ≤ i .0
   pub noLink : reply t (disable i) .link ≡ Nothing
-  pub was : getD (counted t) (i - 2) free .enabled ≡ true
-  pub gone : getD (counted (reply t (disable i) .table)) (i - 2) free ≡ free
-  pub alone : DifferAt (i - 2) t (reply t (disable i) .table)
+  pub was : getD (counted t) (i .0 - 2) free .enabled ≡ true
+  pub gone : getD (counted (reply t (disable i) .table)) (i .0 - 2) free ≡ free
+  pub alone : DifferAt (i .0 - 2) t (reply t (disable i) .table)
 
 -- a call that leaves the table with this own MID and this area, and else as it was
 pub record Sets (t : Table) (c : TableCall) (mid : ℕ) (a : PerhapsArea) : Type 0 where
@@ -93,6 +95,6 @@ TableDemand2 =
     ((most : ℕ) (memory : List Slot) (v : StartValues) → start most memory v .number ≡ 0 → Starts most memory v)
     × ((most : ℕ) (memory : List Slot) (t : Table) → Reached most memory t →
     ((s : Settings) → reply t (enable s) .number ≡ 0 → (k : ℕ) × Adds t s k)
-    × ((i : ℕ) → reply t (disable i) .number ≡ 0 → Removes t i)
+    × ((i : LinkIndex) → reply t (disable i) .number ≡ 0 → Removes t i)
     × ((a : PerhapsArea) → reply t (setArea a) .number ≡ 0 → Sets t (setArea a) (t .own) a)
     × ((m : ℕ) → reply t (setOwn m) .number ≡ 0 → Sets t (setOwn m) m (t .area)))

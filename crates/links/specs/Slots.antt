@@ -1,5 +1,5 @@
--- The run of slots: slot k is the record of index k + 2, and only the first maximum - 1 count.
-use Prim.Native.Nat.{ℕ, zero, suc, _-_}
+-- The indices of the links, and the run of slots: each stop index has one, and only the first maximum - 1 count.
+use Prim.Native.Nat.{ℕ, zero, suc, _+_, _-_}
 use mathlib.Core.Path.{_≡_}
 use mathlib.Core.Bool.{Bool, true, false, cond, not, _&&_, _||_}
 use mathlib.Core.List.{List, [], _∷_}
@@ -7,9 +7,30 @@ use lib.Dec.{ltb}
 use lib.IntN.{pos}
 use lib.ListN.{take, getD, replicate}
 use Rattle.prefix.specs.Prefix.{noPrefix}
+use Rattle.links.specs.declared.LinkIndex.{LinkIndex}
 use Rattle.links.specs.declared.Settings.{Settings}
 use Rattle.links.specs.declared.Slot.{Slot}
 use Rattle.links.specs.declared.Table.{Table}
+
+-- link-fixed, link-lowest-index: the index of the TVL, that of the DGVL, and the first that a stop link may have
+abbrev pub tvlIndex : LinkIndex
+tvlIndex = record { 0 = 0 }
+
+abbrev pub dgvlIndex : LinkIndex
+dgvlIndex = record { 0 = 1 }
+
+abbrev pub firstStop : LinkIndex
+firstStop = record { 0 = 2 }
+
+abbrev pub isFixed : LinkIndex → Bool
+isFixed i = ltb (i .0) (firstStop .0)
+
+-- the stop index whose record slot k is, and the place of the slot that is a stop index's record
+abbrev pub indexAt : ℕ → LinkIndex
+indexAt k = record { 0 = k + firstStop .0 }
+
+abbrev pub placeOf : LinkIndex → ℕ
+placeOf i = i .0 - firstStop .0
 
 abbrev pub blank : Settings
 blank = record {
@@ -29,13 +50,13 @@ valueSlots = replicate 64 free
 abbrev pub inUse : Settings → Slot
 inUse s = record { enabled = true; settings = s }
 
--- the slots of index 2 to the maximum
+-- the slots of the stop indices up to the maximum
 abbrev pub counted : Table → List Slot
 counted t = take (t .max - 1) (t .slots)
 
 -- the slot of an index; a fixed link and an index that does not count have none
-abbrev pub slotAt : List Slot → ℕ → Slot
-slotAt l i = cond (ltb i 2) free (getD l (i - 2) free)
+abbrev pub slotAt : List Slot → LinkIndex → Slot
+slotAt l i = cond (isFixed i) free (getD l (placeOf i) free)
 
 -- is there a slot that passes the test?
 unfoldable pub any : (Slot → Bool) → List Slot → Bool

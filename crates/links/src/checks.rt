@@ -1,6 +1,7 @@
 // Which values of the settings are good: what refuses a call before the table is looked at. A call's values (1) are asked apart
 // from the rest, because a layout of the table may have a refusal of its own between the two.
 use crate::Interface;
+use crate::LinkIndex;
 use crate::PerhapsArea;
 use crate::Settings;
 use crate::StartValues;
@@ -35,7 +36,7 @@ pub fn start_refusal(most: usize, v: StartValues) -> u8
     ensures { λ r. ⌜ r ≡ refusal (startValues most v) ⌝ }
 {
     let good = mid_ok(v.own)
-        & (2 <= v.max)
+        & (LinkIndex::FIRST_STOP.0 <= v.max)
         & (v.max <= most)
         & interface_ok(v.tvl)
         & interface_ok(v.dgvl);

@@ -45,7 +45,7 @@ pub struct Settings {
     pub interface: Interface,
 }
 
-// The record of one stop index: slot k is that of index k + 2.
+// The record of one stop index: the first slot is that of the first stop index.
 pub struct Slot {
     pub enabled: bool,
     pub settings: Settings,

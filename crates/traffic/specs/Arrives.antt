@@ -17,7 +17,7 @@ use Rattle.links.specs.declared.Settings.{Settings}
 use Rattle.links.specs.declared.Slot.{Slot}
 use Rattle.links.specs.declared.Table.{Table}
 use Rattle.links.specs.Settings.{midOk, reaches}
-use Rattle.links.specs.Slots.{free, counted, any, place, with}
+use Rattle.links.specs.Slots.{tvlIndex, dgvlIndex, indexAt, free, counted, any, place, with}
 use Rattle.frames.specs.Frame.{frame}
 use Rattle.traffic.specs.declared.Choice.{Choice}
 use Rattle.traffic.specs.declared.Destination.{Destination}
@@ -128,17 +128,17 @@ kindOf t topological = t .tvl .kind
 kindOf t dynamic = t .dgvl .kind
 kindOf t (stop k s) = s .interface .kind
 
-abbrev pub indexNumber : Link → ℕ
-indexNumber topological = 0
-indexNumber dynamic = 1
-indexNumber (stop k s) = k + 2
+abbrev pub linkIndex : Link → LinkIndex
+linkIndex topological = tvlIndex
+linkIndex dynamic = dgvlIndex
+linkIndex (stop k s) = indexAt k
 
 abbrev pub indexOf : Link → PerhapsLink
-indexOf l = Linked (record { 0 = indexNumber l })
+indexOf l = Linked (linkIndex l)
 
 -- the link of the indication, as a delivery asks for it
 abbrev pub chosenFor : Table → Indication → Chosen
-chosenFor t x = record { index = record { 0 = indexNumber (choose (counted t) x) }; kind = kindOf t (choose (counted t) x) }
+chosenFor t x = record { index = linkIndex (choose (counted t) x); kind = kindOf t (choose (counted t) x) }
 
 -- indication-link: which link an indication would take; none where it is refused, and the room is not asked
 abbrev pub choiceOr : ℕ → PerhapsLink → Choice
@@ -174,7 +174,7 @@ deliverAs w x buffer index = record {
 }
 
 abbrev pub deliver : Table → Indication → List ℕ → Link → Received
-deliver t x buffer l = deliverAs (frameOrPacket (kindOf t l) x) x buffer (record { 0 = indexNumber l })
+deliver t x buffer l = deliverAs (frameOrPacket (kindOf t l) x) x buffer (linkIndex l)
 
 abbrev pub notReceived : ℕ → Reception
 notReceived n = record { number = n; link = NoLink; length = 0; source = 0; class = 0 }

@@ -9,6 +9,7 @@ use lib.ListN.{length, take, drop}
 use Rattle.replies.specs.Rules.{Exact}
 use Rattle.ipv6.specs.Packet.{destination}
 use Rattle.ipv6.specs.Identifier.{linkLocal}
+use Rattle.links.specs.declared.LinkIndex.{LinkIndex}
 use Rattle.links.specs.declared.PerhapsLink.the-variants.{Nothing as NoLink}
 use Rattle.links.specs.declared.Slot.{Slot}
 use Rattle.links.specs.declared.Table.{Table}
@@ -44,7 +45,7 @@ Demand1 =
     × ((t : Table) (x : Indication) (buffer : List ℕ) → RefusesIndication t x buffer)
     × ((t : Table) (x : Indication) → RefusesChoice t x)
     × ((t : Table) (q : Request) → RefusesRequest t q)
-    × ((t : Table) (i : ℕ) → Exact (interfaceRules (enabledAt (counted t) i)) (interface t i .number))
+    × ((t : Table) (i : LinkIndex) → Exact (interfaceRules (enabledAt (counted t) i)) (interface t i .number))
 
 -- Demand 2, over reached tables
 
@@ -79,7 +80,7 @@ pub record Sends (t : Table) (q : Request) : Type 0 where
   pub packetLength : send t q .length ≡ length (q .packet)
 
 -- the interface address of an enabled link: the own MID, and the address that gives it back
-pub record Addresses (t : Table) (i : ℕ) : Type 0 where
+pub record Addresses (t : Table) (i : LinkIndex) : Type 0 where
   pub mid : interface t i .mid ≡ t .own
   pub address : interface t i .address ≡ linkLocal (t .own)
 
@@ -90,4 +91,4 @@ Demand2 =
     ((x : Indication) (buffer : List ℕ) → receive t x buffer .reply .number ≡ 0 → Delivers t x buffer)
     × ((x : Indication) (buffer : List ℕ) → length (x .packet) + 14 ≤ length buffer → Foretells t x buffer)
     × ((q : Request) → send t q .number ≡ 0 → Sends t q)
-    × ((i : ℕ) → interface t i .number ≡ 0 → Addresses t i))
+    × ((i : LinkIndex) → interface t i .number ≡ 0 → Addresses t i))

@@ -13,10 +13,11 @@ use Rattle.ipv6.specs.Identifier.{midOf, linkLocal}
 use Rattle.links.specs.declared.PerhapsArea.{PerhapsArea}
 use Rattle.links.specs.declared.PerhapsArea.the-variants.{Set, Unset}
 use Rattle.links.specs.declared.Interface.{Interface}
+use Rattle.links.specs.declared.LinkIndex.{LinkIndex}
 use Rattle.links.specs.declared.Named.{Named}
 use Rattle.links.specs.declared.Table.{Table}
 use Rattle.links.specs.Settings.{midOk}
-use Rattle.links.specs.Slots.{counted}
+use Rattle.links.specs.Slots.{tvlIndex, dgvlIndex, counted}
 use Rattle.links.specs.Index.{enabledAt, named}
 use Rattle.traffic.specs.declared.Destination.{Destination}
 use Rattle.traffic.specs.declared.Destination.the-variants.{Mid, Within, Nothing}
@@ -25,13 +26,13 @@ use Rattle.traffic.specs.declared.RequestHead.{RequestHead}
 use Rattle.traffic.specs.declared.Sending.{Sending}
 
 pub record Request : Type 0 where
-  pub index : ℕ
+  pub index : LinkIndex
   pub class : ℕ
   pub neighbour : PerhapsMid
   pub packet : List ℕ
 
 abbrev pub request : RequestHead → List ℕ → Request
-request h packet = record { index = h .index .0; class = h .class; neighbour = h .neighbour; packet = packet }
+request h packet = record { index = h .index; class = h .class; neighbour = h .neighbour; packet = packet }
 
 -- What is sent on a link, whatever the layout of the table that it was found in
 
@@ -55,7 +56,7 @@ toNeighbour Unknown = Nothing
 unfoldable pub down : Named → Request → Down
 down l q =
     cond (multicast (destination (q .packet)))
-    (cond (eqb (q .index) 0)
+    (cond (eqb (q .index .0) (tvlIndex .0))
     (record { transport = 4; destination = Nothing })
     (record { transport = 3; destination = within (l .area) }))
     (record { transport = 1; destination = toNeighbour (neighbourOf (l .interface) (q .neighbour) (q .packet)) })
@@ -77,7 +78,7 @@ isUnknown Unknown = true
 -- request-refusals. 11: multicast on the DGVL without an area; 12: neighbour not resolvable
 unfoldable pub resolveRules : Named → Request → List Rule
 resolveRules l q =
-    11 if (multicast (destination (q .packet)) && eqb (q .index) 1 && isUnset (l .area))
+    11 if (multicast (destination (q .packet)) && eqb (q .index .0) (dgvlIndex .0) && isUnset (l .area))
     then 12 if (not (multicast (destination (q .packet))) && isUnknown (neighbourOf (l .interface) (q .neighbour) (q .packet)))
     then []
 
@@ -130,5 +131,5 @@ answerInterface (suc n) own = record { number = suc n; mid = 0; address = replic
 unfoldable pub interfaceOn : Bool → ℕ → InterfaceAddress
 interfaceOn enabled own = answerInterface (refusal (interfaceRules enabled)) own
 
-unfoldable pub interface : Table → ℕ → InterfaceAddress
+unfoldable pub interface : Table → LinkIndex → InterfaceAddress
 interface t i = interfaceOn (enabledAt (counted t) i) (t .own)

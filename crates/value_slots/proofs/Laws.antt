@@ -1,2 +1,3 @@
--- The laws of slots that other crates cite.
+-- The laws of slots.
 pub mod Whole
+pub mod Place

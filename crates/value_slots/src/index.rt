@@ -8,7 +8,7 @@ ghost use Rattle.links.specs.Slots.{counted};
 ghost use Rattle.links.specs.Index.{enabledAt, named};
 
 pub fn is_enabled(t: Table, index: LinkIndex) -> bool
-    ensures { λ r. ⌜ r ≡ enabledAt (counted t) (index .0) ⌝ }
+    ensures { λ r. ⌜ r ≡ enabledAt (counted t) index ⌝ }
 {
     let slot = crate::slot_at(t, index);
     (index.0 < LinkIndex::FIRST_STOP.0) | slot.enabled
@@ -17,10 +17,9 @@ pub fn is_enabled(t: Table, index: LinkIndex) -> bool
 // The link itself: its interface and its area. The topological link has no area, the dynamic link perhaps one. One function
 // gives them all because each function that reads a slot of its table copies the whole table.
 pub fn link_at(t: Table, index: LinkIndex) -> Named
-    ensures { λ r. ⌜ r ≡ named t (index .0) ⌝ }
+    ensures { λ r. ⌜ r ≡ named t index ⌝ }
 {
-    let i = index.0;
-    if i == LinkIndex::TVL.0 {
+    if index.0 == LinkIndex::TVL.0 {
         let tvl = t.tvl;
         return Named {
             enabled: true,
@@ -28,7 +27,7 @@ pub fn link_at(t: Table, index: LinkIndex) -> Named
             area: PerhapsArea::Unset,
         };
     }
-    if i == LinkIndex::DGVL.0 {
+    if index.0 == LinkIndex::DGVL.0 {
         let dgvl = t.dgvl;
         let area = t.area;
         return Named {

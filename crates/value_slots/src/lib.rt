@@ -10,11 +10,10 @@ use links::Table;
 ghost use mathlib.Core.Path.{_≡_};
 ghost use mathlib.Core.List.{[]};
 ghost use mathlib.Core.Bool.{cond};
-ghost use Prim.Native.Nat.{_+_, _-_, min};
-ghost use Rattle.links.specs.Slots.{counted, slotAt, any, place, unused};
-ghost use Rattle.links.specs.Calls.{withSlot};
+ghost use Prim.Native.Nat.{_-_, _≤_, min};
+ghost use Rattle.links.specs.Slots.{dgvlIndex, indexAt, counted, slotAt, any, place, unused};
 ghost use Rattle.links.specs.Index.{chosen};
-ghost use Rattle.value_slots.specs.Search.{passes, found};
+ghost use Rattle.value_slots.specs.Search.{passes, found, slotPlace, withSlotOf};
 
 // Which slot is looked for.
 pub enum Wanted {
@@ -50,6 +49,24 @@ fn slot_count(max: usize) -> usize
     } else {
         links::SLOTS
     }
+}
+
+// The place of a link's slot. A fixed link has none: its place is past the last slot.
+fn place_of(index: LinkIndex) -> usize
+    ensures { λ r. ⌜ r ≡ slotPlace index ⌝ }
+{
+    if index.0 < LinkIndex::FIRST_STOP.0 {
+        return links::SLOTS;
+    }
+    index.0 - LinkIndex::FIRST_STOP.0
+}
+
+// The index of the stop link whose slot is at this place.
+fn index_of(place: usize) -> LinkIndex
+    requires { ⌜ place ≤ 64 ⌝ }
+    ensures { λ r. ⌜ r ≡ indexAt place ⌝ }
+{
+    LinkIndex(place + LinkIndex::FIRST_STOP.0)
 }
 
 // The first slot that is wanted: its place, and its kind. Where there is none, the number of slots that count, and 0.
@@ -96,13 +113,13 @@ pub fn has(t: Table, wanted: Wanted, s: Settings) -> bool
 
 // The link of the first slot that is wanted, or the dynamic link.
 pub fn link_or_dynamic(t: Table, wanted: Wanted, s: Settings, address: &[u8]) -> Chosen
-    ensures { λ r. ⌜ r ≡ chosen t (cond (any (passes wanted s (now (address .entry))) (counted t)) (place (passes wanted s (now (address .entry))) (counted t) + 2) 1) ⌝ }
+    ensures { λ r. ⌜ r ≡ chosen t (cond (any (passes wanted s (now (address .entry))) (counted t)) (indexAt (place (passes wanted s (now (address .entry))) (counted t))) dgvlIndex) ⌝ }
 {
     let f = find(t, wanted, s, address);
     let dgvl = t.dgvl;
     if f.place < slot_count(t.max) {
         return Chosen {
-            index: LinkIndex(f.place + 2),
+            index: index_of(f.place),
             kind: f.kind,
         };
     }
@@ -112,33 +129,30 @@ pub fn link_or_dynamic(t: Table, wanted: Wanted, s: Settings, address: &[u8]) ->
     }
 }
 
-// The place of the lowest unused index; the number of slots that count where all are in use.
-pub fn first_unused(t: Table) -> usize
-    ensures { λ r. ⌜ r ≡ place unused (counted t) ⌝ }
+// The lowest unused index; the one past those that count where all are in use.
+pub fn first_unused(t: Table) -> LinkIndex
+    ensures { λ r. ⌜ r ≡ indexAt (place unused (counted t)) ⌝ }
 {
     let any = links::blank_slot();
-    first_place(t, Wanted::Unused, any.settings, b"")
+    index_of(first_place(t, Wanted::Unused, any.settings, b""))
 }
 
 // The slot of a link; a blank one for a fixed link and for an index that does not count.
 pub fn slot_at(t: Table, index: LinkIndex) -> Slot
-    ensures { λ r. ⌜ r ≡ slotAt (counted t) (index .0) ⌝ }
+    ensures { λ r. ⌜ r ≡ slotAt (counted t) index ⌝ }
 {
-    let i = index.0;
-    if i < LinkIndex::FIRST_STOP.0 {
-        return links::blank_slot();
-    }
-    let k = i - 2;
+    let k = place_of(index);
     if slot_count(t.max) <= k {
         return links::blank_slot();
     }
     t.slots[k]
 }
 
-// The table with another slot k; past the last slot there is none to replace.
-pub fn with_slot(mut t: Table, k: usize, x: Slot) -> Table
-    ensures { λ r. ⌜ r ≡ withSlot t k x ⌝ }
+// The table with another slot for a link; a fixed link and an index past the last slot have none to replace.
+pub fn with_slot(mut t: Table, index: LinkIndex, x: Slot) -> Table
+    ensures { λ r. ⌜ r ≡ withSlotOf t index x ⌝ }
 {
+    let k = place_of(index);
     if k < links::SLOTS {
         t.slots[k] = x;
     }

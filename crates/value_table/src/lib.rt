@@ -48,23 +48,22 @@ pub fn enable(t: Table, s: Settings) -> Reply
     if !value_slots::has(t, Wanted::Unused, s) {
         return without_link(t, replies::NO_INDEX_FREE);
     }
-    let k = value_slots::first_unused(t);
+    let index = value_slots::first_unused(t);
     let slot = Slot {
         enabled: true,
         settings: s,
     };
     Reply {
         number: replies::DONE,
-        link: PerhapsLink::Link(LinkIndex(k + 2)),
-        table: value_slots::with_slot(t, k, slot),
+        link: PerhapsLink::Link(index),
+        table: value_slots::with_slot(t, index, slot),
     }
 }
 
 pub fn disable(t: Table, index: LinkIndex) -> Reply
-    ensures { λ r. ⌜ r ≡ reply t (disable (index .0)) ⌝ }
+    ensures { λ r. ⌜ r ≡ reply t (disable index) ⌝ }
 {
-    let i = index.0;
-    if i < LinkIndex::FIRST_STOP.0 {
+    if index.0 < LinkIndex::FIRST_STOP.0 {
         return without_link(t, replies::FIXED_LINK);
     }
     let slot = value_slots::slot_at(t, index);
@@ -72,7 +71,7 @@ pub fn disable(t: Table, index: LinkIndex) -> Reply
         return without_link(t, replies::NO_SUCH_LINK);
     }
     let gone = links::blank_slot();
-    without_link(value_slots::with_slot(t, i - 2, gone), replies::DONE)
+    without_link(value_slots::with_slot(t, index, gone), replies::DONE)
 }
 
 pub fn set_dgvl_area(t: Table, a: PerhapsArea) -> Reply

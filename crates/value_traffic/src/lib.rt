@@ -55,7 +55,7 @@ pub fn request(t: Table, h: RequestHead, packet: &[u8]) -> Sending
 }
 
 pub fn interface_address(t: Table, index: LinkIndex) -> InterfaceAddress
-    ensures { λ r. ⌜ r ≡ interface t (index .0) ⌝ }
+    ensures { λ r. ⌜ r ≡ interface t index ⌝ }
 {
     leaves::address_on(value_slots::index::is_enabled(t, index), t.own)
 }

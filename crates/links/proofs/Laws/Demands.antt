@@ -1,5 +1,5 @@
 -- Demands 1 and 2 for the calls that alter the table.
-use Prim.Native.Nat.{ℕ, zero, suc, _-_, _≤_, _<_}
+use Prim.Native.Nat.{ℕ, zero, suc, _-_, _<_}
 use native.Mathlib.Omega.{arith}
 use mathlib.Core.Path.{_≡_, refl, sym, _∙_, ap, subst}
 use mathlib.Core.Logic.{_≢_}
@@ -10,6 +10,7 @@ use lib.Seq.{getD-set-same, getD-set-other, drop-set-lt}
 use borrow.Author.Tests.{ltb-true, ltb-false, not-true, not-false}
 use Rattle.replies.specs.Rules.{refusal, None, Exact}
 use Rattle.replies.proofs.Laws.Refusals.{done-exactly, none-right, exact}
+use Rattle.links.specs.declared.LinkIndex.{LinkIndex}
 use Rattle.links.specs.declared.PerhapsArea.{PerhapsArea}
 use Rattle.links.specs.declared.PerhapsLink.the-variants.{Nothing}
 use Rattle.links.specs.declared.Reply.{Reply}
@@ -18,7 +19,7 @@ use Rattle.links.specs.declared.Slot.{Slot}
 use Rattle.links.specs.declared.StartValues.{StartValues}
 use Rattle.links.specs.declared.Table.{Table}
 use Rattle.links.specs.Settings.{settingsRules}
-use Rattle.links.specs.Slots.{free, inUse, counted, slotAt, any, place, unused}
+use Rattle.links.specs.Slots.{placeOf, free, inUse, counted, slotAt, any, place, unused}
 use Rattle.links.specs.Calls.{TableCall, enable, disable, setArea, setOwn, slotRules, rules, linkAfter, tableAfter, answer, reply, withSlot, withArea, withOwn, startValues, fresh, plainStart, begin, start}
 use Rattle.links.specs.Reached.{Sound}
 use Rattle.links.specs.Demands.{Refuses, Empty, RefusesStart, TableDemand1, Starts, DifferAt, Adds, Removes, Sets, TableDemand2}
@@ -150,21 +151,21 @@ module _ (most : ℕ) (memory : List Slot) (t : Table) (h : Sound most memory t)
         },
       )
 
-  removes : (i : ℕ) → reply t (disable i) .number ≡ 0 → Removes t i
+  removes : (i : LinkIndex) → reply t (disable i) .number ≡ 0 → Removes t i
   unfolding rules tableAfter linkAfter
   removes i e =
       let l = counted t in
       let none = none-holds t (disable i) e in
-      let stop : 2 ≤ i = ltb-false i 2 (none .0) in
-      let on : getD l (i - 2) free .enabled ≡ true = rw (slot-of-stop l i stop) at (not-false (slotAt l i .enabled) (none .1 .0)) in
-      let below = enabled-below l (i - 2) on in
+      let k = placeOf i in
+      let on : getD l k free .enabled ≡ true = rw (slot-of-stop l i (none .0)) at (not-false (slotAt l i .enabled) (none .1 .0)) in
+      let below = enabled-below l k on in
       let now-is = table-is t (disable i) e in
       record {
-        stop = stop;
+        stop = ltb-false (i .0) 2 (none .0);
         noLink = link-is t (disable i) e;
         was = on;
-        gone = at-k t (reply t (disable i) .table) (i - 2) free now-is below;
-        alone = differ t (reply t (disable i) .table) (i - 2) free now-is below;
+        gone = at-k t (reply t (disable i) .table) k free now-is below;
+        alone = differ t (reply t (disable i) .table) k free now-is below;
       }
 
 -- own MID and area are set, and nothing else

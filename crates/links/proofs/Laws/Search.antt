@@ -1,5 +1,5 @@
 -- The search over slots: what `any` and `place` say of a run, and the law of every loop that looks for a slot.
-use Prim.Native.Nat.{ℕ, zero, suc, _+_, _-_, _≤_, _<_}
+use Prim.Native.Nat.{ℕ, zero, suc, _+_, _≤_, _<_}
 use native.Mathlib.Numerals.{add-one}
 use native.Mathlib.Nat.{zero-add}
 use native.Mathlib.Omega.{arith}
@@ -22,6 +22,15 @@ any-place q (x ∷ l) = go (q x) (any-place q l)
     go : (t : Bool) → any q l ≡ ltb (place q l) (length l) → (t || any q l) ≡ ltb (cond t zero (suc (place q l))) (suc (length l))
     go true e = sym (lt-ltb 0 (suc (length l)) (omega arith))
     go false e = e ∙ sym (leb·suc-suc (suc (place q l)) (length l))
+
+pub place-within : (q : Slot → Bool) (l : List Slot) → place q l ≤ length l
+unfolding place
+place-within q [] = omega arith
+place-within q (x ∷ l) = go (q x) (place-within q l)
+  where
+    go : (t : Bool) → place q l ≤ length l → cond t zero (suc (place q l)) ≤ suc (length l)
+    go true h = omega arith
+    go false h = omega arith
 
 -- no slot before the place passes, and the one there does
 pub before-place : (q : Slot → Bool) (l : List Slot) (j : ℕ) (d : Slot) → j < place q l → q (getD l j d) ≡ false

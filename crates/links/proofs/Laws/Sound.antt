@@ -7,17 +7,18 @@ use mathlib.Core.Bool.{true, and-eq-true-iff}
 use mathlib.Core.List.{List}
 use lib.Dec.{lit≤}
 use lib.ListN.{length, take, set, getD, length-take}
-use borrow.Author.Tests.{leb-true, ltb-true, ltb-false, not-false}
+use borrow.Author.Tests.{leb-true, ltb-true, not-false}
 use Rattle.octets.proofs.Laws.Tests.{clash}
 use Rattle.replies.specs.Rules.{refusal, None}
 use Rattle.replies.proofs.Laws.Refusals.{done-exactly, none-left, none-right}
+use Rattle.links.specs.declared.LinkIndex.{LinkIndex}
 use Rattle.links.specs.declared.PerhapsArea.{PerhapsArea}
 use Rattle.links.specs.declared.Settings.{Settings}
 use Rattle.links.specs.declared.Slot.{Slot}
 use Rattle.links.specs.declared.StartValues.{StartValues}
 use Rattle.links.specs.declared.Table.{Table}
 use Rattle.links.specs.Settings.{midOk, interfaceOk, settingsRules, sameGround, overlaps}
-use Rattle.links.specs.Slots.{Has, free, valueSlots, inUse, counted, slotAt, any, place, unused, enabledCount}
+use Rattle.links.specs.Slots.{placeOf, Has, free, valueSlots, inUse, counted, slotAt, any, place, unused, enabledCount}
 use Rattle.links.specs.Calls.{TableCall, enable, disable, setArea, setOwn, slotRules, rules, withSlot, withArea, withOwn, goodDynamic, startOk, startValues, cleared, fresh, plainStart, begin, start, startByValue, tableAfter, answer, reply}
 use Rattle.links.specs.Reached.{Reached, started, called, ByValue, Apart, Sound}
 use Rattle.links.proofs.Laws.Settings.{ground-sym, overlaps-sym}
@@ -87,12 +88,12 @@ module _ (most : ℕ) (memory : List Slot) where
           (done-exactly (settingsRules s) (settings-numbered s) .1 (none-left (settingsRules s) (slotRules (counted t) s) n))
       go j r (inr y) = h .good j r y
 
-  disable-sound : (t : Table) (i : ℕ) → Sound most memory t → None (rules (counted t) (disable i)) → Sound most memory (withSlot t (i - 2) free)
+  disable-sound : (t : Table) (i : LinkIndex) → Sound most memory t → None (rules (counted t) (disable i)) → Sound most memory (withSlot t (placeOf i) free)
   unfolding rules
   disable-sound t i h n =
       let l = counted t in
-      let k = i - 2 in
-      let on : getD l k free .enabled ≡ true = rw (slot-of-stop l i (ltb-false i 2 (n .0))) at (not-false (slotAt l i .enabled) (n .1 .0)) in
+      let k = placeOf i in
+      let on : getD l k free .enabled ≡ true = rw (slot-of-stop l i (n .0)) at (not-false (slotAt l i .enabled) (n .1 .0)) in
       let below = enabled-below l k on in
       let now-is : counted (withSlot t k free) ≡ set l k free = counted-with t k free in
       let back : (j : ℕ) (s : Settings) → Has (counted (withSlot t k free)) j s → Has l j s =

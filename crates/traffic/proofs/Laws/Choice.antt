@@ -1,6 +1,5 @@
 -- The four lines, by the transport: which of them is asked, and what the chosen link is.
-use Prim.Native.Nat.{ℕ, _+_, _-_, _≤_}
-use native.Mathlib.Nat.{add-sub-cancel}
+use Prim.Native.Nat.{ℕ, _+_}
 use native.Mathlib.Omega.{arith}
 use mathlib.Core.Path.{_≡_, refl, sym, _∙_, ap, fun-ext}
 use mathlib.Core.Bool.{Bool, true, false, cond, _||_, and-false}
@@ -10,14 +9,15 @@ use lib.ListN.{getD}
 use borrow.Author.Tests.{eqb-true, ne-eqb}
 use Rattle.area.specs.declared.Area.{Area}
 use Rattle.ipv6.specs.Packet.{source, destination}
+use Rattle.links.specs.declared.LinkIndex.{LinkIndex}
 use Rattle.links.specs.declared.Settings.{Settings}
 use Rattle.links.specs.declared.Slot.{Slot}
 use Rattle.links.specs.declared.Table.{Table}
 use Rattle.links.specs.Settings.{reaches}
-use Rattle.links.specs.Slots.{free, counted, any, place, with}
+use Rattle.links.specs.Slots.{dgvlIndex, indexAt, free, counted, any, place, with}
 use Rattle.links.specs.Index.{interfaceAt, chosen}
-use Rattle.links.proofs.Laws.Counted.{slot-of-stop}
-use Rattle.traffic.specs.Arrives.{Indication, Link, topological, dynamic, stop, PerhapsStop, at, nowhere, stopBy, isArea, byArea, byDestination, bySource, failing, choose, kindOf, indexNumber, chosenFor}
+use Rattle.links.proofs.Laws.Counted.{stop-index, place-of-index, slot-of-stop}
+use Rattle.traffic.specs.Arrives.{Indication, Link, topological, dynamic, PerhapsStop, at, nowhere, stopBy, isArea, byArea, byDestination, bySource, failing, choose, kindOf, linkIndex, chosenFor}
 use Rattle.traffic.proofs.Laws.Stops.{found-at}
 
 -- tests that answer alike find alike
@@ -70,61 +70,61 @@ module _ (l : List Slot) (x : Indication) where
       rw (e, never (byArea x) l (λ s. rw g), never (byDestination x) l (λ s. rw f), never (bySource x) l (λ s. rw f))
 
 -- the index of what a search finds, or that of the link that is taken failing it
-pub index-found : (q : Settings → Bool) (l : List Slot) (k : Link) → indexNumber (failing (stopBy q l) k) ≡ cond (any (with q) l) (place (with q) l + 2) (indexNumber k)
+pub index-found : (q : Settings → Bool) (l : List Slot) (k : Link) → linkIndex (failing (stopBy q l) k) ≡ cond (any (with q) l) (indexAt (place (with q) l)) (linkIndex k)
 unfolding stopBy
 index-found q l k = go (any (with q) l)
   where
-    go : (t : Bool) → indexNumber (failing (cond t (at (place (with q) l) (getD l (place (with q) l) free .settings)) nowhere) k) ≡ cond t (place (with q) l + 2) (indexNumber k)
+    go : (t : Bool) → linkIndex (failing (cond t (at (place (with q) l) (getD l (place (with q) l) free .settings)) nowhere) k) ≡ cond t (indexAt (place (with q) l)) (linkIndex k)
     go true = refl
     go false = refl
 
 -- the index that the lines give, by the transport
 
-abbrev pub IndexOr : (Settings → Bool) → List Slot → ℕ → ℕ
-IndexOr q l other = cond (any (with q) l) (place (with q) l + 2) other
+abbrev pub IndexOr : (Settings → Bool) → List Slot → LinkIndex → LinkIndex
+IndexOr q l other = cond (any (with q) l) (indexAt (place (with q) l)) other
 
 module _ (l : List Slot) (x : Indication) where
   pub index-unicast : x .transport ≡ 1
-      → indexNumber (choose l x) ≡ IndexOr (λ s. reaches s (destination (x .packet))) l (IndexOr (λ s. reaches s (source (x .packet))) l 1)
+      → linkIndex (choose l x) ≡ IndexOr (λ s. reaches s (destination (x .packet))) l (IndexOr (λ s. reaches s (source (x .packet))) l dgvlIndex)
   index-unicast e =
       rw (choose-unicast l x e, index-found (λ s. reaches s (destination (x .packet))) l (failing (stopBy (λ s. reaches s (source (x .packet))) l) dynamic), index-found (λ s. reaches s (source (x .packet))) l dynamic)
 
-  pub index-area : (eqb (x .transport) 2 || eqb (x .transport) 3) ≡ true → indexNumber (choose l x) ≡ IndexOr (λ s. isArea (x .destination) (s .area)) l 1
+  pub index-area : (eqb (x .transport) 2 || eqb (x .transport) 3) ≡ true → linkIndex (choose l x) ≡ IndexOr (λ s. isArea (x .destination) (s .area)) l dgvlIndex
   index-area e = rw (choose-area l x e, index-found (λ s. isArea (x .destination) (s .area)) l dynamic)
 
 -- a destination that is no area is that of no link
-pub index-no-area : (l : List Slot) (x : Indication) → (eqb (x .transport) 2 || eqb (x .transport) 3) ≡ true → ((b : Area) → isArea (x .destination) b ≡ false) → indexNumber (choose l x) ≡ 1
+pub index-no-area : (l : List Slot) (x : Indication) → (eqb (x .transport) 2 || eqb (x .transport) 3) ≡ true → ((b : Area) → isArea (x .destination) b ≡ false) → linkIndex (choose l x) ≡ dgvlIndex
 index-no-area l x e h = rw (choose-area l x e, never (λ s. isArea (x .destination) (s .area)) l (λ s. h (s .area)))
 
--- an index from the search is above 1
-pub index-kept : (q : Settings → Bool) (l : List Slot) (other : ℕ) → (IndexOr q l 1 ≡ 1 → ⊥) → IndexOr q l 1 ≡ IndexOr q l other
+-- an index from the search is not the dynamic link's
+pub index-kept : (q : Settings → Bool) (l : List Slot) (other : LinkIndex) → (IndexOr q l dgvlIndex .0 ≡ 1 → ⊥) → IndexOr q l dgvlIndex ≡ IndexOr q l other
 index-kept q l other h = go (any (with q) l) h
   where
-    go : (b : Bool) → (cond b (place (with q) l + 2) 1 ≡ 1 → ⊥) → cond b (place (with q) l + 2) 1 ≡ cond b (place (with q) l + 2) other
+    go : (b : Bool) → (cond b (indexAt (place (with q) l)) dgvlIndex .0 ≡ 1 → ⊥) → cond b (indexAt (place (with q) l)) dgvlIndex ≡ cond b (indexAt (place (with q) l)) other
     go true h = refl
     go false h = absurd (h refl)
 
-pub index-failing : (q : Settings → Bool) (l : List Slot) (other : ℕ) → IndexOr q l 1 ≡ 1 → other ≡ IndexOr q l other
+pub index-failing : (q : Settings → Bool) (l : List Slot) (other : LinkIndex) → IndexOr q l dgvlIndex .0 ≡ 1 → other ≡ IndexOr q l other
 index-failing q l other e = go (any (with q) l) e
   where
-    go : (b : Bool) → cond b (place (with q) l + 2) 1 ≡ 1 → other ≡ cond b (place (with q) l + 2) other
+    go : (b : Bool) → cond b (indexAt (place (with q) l)) dgvlIndex .0 ≡ 1 → other ≡ cond b (indexAt (place (with q) l)) other
     go true e = absurd (omega arith)
     go false e = refl
 
 -- the kind of the chosen link is that of its index
-pub kind-by-index : (t : Table) (x : Indication) → kindOf t (choose (counted t) x) ≡ interfaceAt t (indexNumber (choose (counted t) x)) .kind
+pub kind-by-index : (t : Table) (x : Indication) → kindOf t (choose (counted t) x) ≡ interfaceAt t (linkIndex (choose (counted t) x)) .kind
 unfolding choose interfaceAt
 kind-by-index t x = first (eqb (x .transport) 4)
   where
     Right : Link → Type 0
-    Right k = kindOf t k ≡ interfaceAt t (indexNumber k) .kind
+    Right k = kindOf t k ≡ interfaceAt t (linkIndex k) .kind
 
     by : (q : Settings → Bool) (k : Link) → Right k → Right (failing (stopBy q (counted t)) k)
     by q k r = go (stopBy q (counted t)) refl
       where
         go : (f : PerhapsStop) → stopBy q (counted t) ≡ f → Right (failing f k)
         go (at j s) e =
-            rw (ne-eqb (j + 2) 0 (λ z. omega arith), ne-eqb (j + 2) 1 (λ z. omega arith), slot-of-stop (counted t) (j + 2) (let stop : 2 ≤ j + 2 = omega arith in stop), add-sub-cancel j 2, found-at q (counted t) j s e .0)
+            rw (ne-eqb (j + 2) 0 (λ z. omega arith), ne-eqb (j + 2) 1 (λ z. omega arith), slot-of-stop (counted t) (indexAt j) (stop-index j), place-of-index j, found-at q (counted t) j s e .0)
         go nowhere e = r
 
     first : (b : Bool) → Right (cond b topological (failing (stopBy (byArea x) (counted t)) (failing (stopBy (byDestination x) (counted t)) (failing (stopBy (bySource x) (counted t)) dynamic))))
@@ -132,5 +132,5 @@ kind-by-index t x = first (eqb (x .transport) 4)
     first false = by (byArea x) _ (by (byDestination x) _ (by (bySource x) dynamic refl))
 
 -- so a search that gives a link by its index gives the link that was chosen
-pub chosen-by-index : (t : Table) (x : Indication) → chosen t (indexNumber (choose (counted t) x)) ≡ chosenFor t x
-chosen-by-index t x = ap (λ (k : ℕ). record { index = record { 0 = indexNumber (choose (counted t) x) }; kind = k }) (sym (kind-by-index t x))
+pub chosen-by-index : (t : Table) (x : Indication) → chosen t (linkIndex (choose (counted t) x)) ≡ chosenFor t x
+chosen-by-index t x = ap (λ (k : ℕ). record { index = linkIndex (choose (counted t) x); kind = k }) (sym (kind-by-index t x))

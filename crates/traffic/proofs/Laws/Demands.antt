@@ -1,5 +1,5 @@
 -- Demands 1 and 2, proved for every call.
-use Prim.Native.Nat.{ℕ, zero, suc, _+_, _-_, _≤_}
+use Prim.Native.Nat.{ℕ, zero, suc, _+_, _≤_}
 use native.Mathlib.Omega.{arith}
 use mathlib.Core.Path.{_≡_, refl, sym, _∙_, ap, subst}
 use mathlib.Core.Logic.{_≢_}
@@ -12,6 +12,7 @@ use borrow.Author.Tests.{not-false}
 use Rattle.replies.specs.Rules.{refusal, Exact}
 use Rattle.replies.proofs.Laws.Refusals.{exact, done-exactly, none-right}
 use Rattle.ipv6.specs.Identifier.{linkLocal}
+use Rattle.links.specs.declared.LinkIndex.{LinkIndex}
 use Rattle.links.specs.declared.Named.{Named}
 use Rattle.links.specs.declared.PerhapsLink.{PerhapsLink}
 use Rattle.links.specs.declared.PerhapsLink.the-variants.{Nothing as NoLink}
@@ -100,7 +101,7 @@ number-of-interface : (n own : ℕ) → answerInterface n own .number ≡ n
 number-of-interface zero own = refl
 number-of-interface (suc n) own = refl
 
-refuses-interface : (t : Table) (i : ℕ) → Exact (interfaceRules (enabledAt (counted t) i)) (interface t i .number)
+refuses-interface : (t : Table) (i : LinkIndex) → Exact (interfaceRules (enabledAt (counted t) i)) (interface t i .number)
 unfolding interface interfaceOn
 refuses-interface t i =
     let rules = interfaceRules (enabledAt (counted t) i) in
@@ -189,7 +190,7 @@ module _ (t : Table) where
         packetLength = ap (λ (r : Sending). r .length) done;
       }
 
-  addresses : (i : ℕ) → interface t i .number ≡ 0 → Addresses t i
+  addresses : (i : LinkIndex) → interface t i .number ≡ 0 → Addresses t i
   unfolding interface interfaceOn
   addresses i e =
       let done : interface t i ≡ record { number = 0; mid = t .own; address = linkLocal (t .own) } =

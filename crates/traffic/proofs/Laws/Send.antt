@@ -66,15 +66,15 @@ module _ (l : Named) (q : Request) where
       ap (λ (m : ℕ). sending m l q) (on-enabled on ∙ refusal-past (packetRules (q .packet)) (resolveRules l q) (packet-numbered (q .packet)) e)
 
   module _ (many : multicast (destination (q .packet)) ≡ true) where
-    pub many-without-area : (eqb (q .index) 1 && isUnset (l .area)) ≡ true → sending (refusal (resolveRules l q)) l q ≡ notSent 11
+    pub many-without-area : (eqb (q .index .0) 1 && isUnset (l .area)) ≡ true → sending (refusal (resolveRules l q)) l q ≡ notSent 11
     unfolding resolveRules
     many-without-area e = rw (many, e)
 
-    pub many-sent : (eqb (q .index) 1 && isUnset (l .area)) ≡ false → sending (refusal (resolveRules l q)) l q ≡ sending 0 l q
+    pub many-sent : (eqb (q .index .0) 1 && isUnset (l .area)) ≡ false → sending (refusal (resolveRules l q)) l q ≡ sending 0 l q
     unfolding resolveRules
     many-sent e = rw (many, e)
 
-    pub many-down : down l q ≡ cond (eqb (q .index) 0) (record { transport = 4; destination = Nothing }) (record { transport = 3; destination = within (l .area) })
+    pub many-down : down l q ≡ cond (eqb (q .index .0) 0) (record { transport = 4; destination = Nothing }) (record { transport = 3; destination = within (l .area) })
     unfolding down
     many-down = rw many
 

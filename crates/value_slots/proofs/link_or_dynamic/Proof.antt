@@ -1,10 +1,13 @@
 -- `value_slots::link_or_dynamic` meets its contract.
-use mathlib.Core.Path.{_≡_, sym, _∙_}
+use native.Mathlib.Omega.{arith}
+use mathlib.Core.Path.{_≡_, sym, _∙_, ap}
 use lib.ListN.{length, getD}
 use borrow.Author.Tests.{lt-ltb, le-ltb}
 use borrow.Author.Needs.{needs}
 use Rattle.octets.proofs.Laws.Runs.{length-mapped}
+use Rattle.links.specs.declared.LinkIndex.{LinkIndex}
 use Rattle.links.specs.Slots.{free, counted, place}
+use Rattle.links.specs.Index.{interfaceAt}
 use Rattle.links.proofs.Laws.Counted.{counted-length}
 use Rattle.links.proofs.Laws.Kinds.{dynamic-kind, stop-kind, chosen-is}
 use Rattle.links.proofs.Laws.Search.{any-place}
@@ -24,8 +27,8 @@ find-requires c κs = search needs
 slot-count-requires : tie.Need-slot-count-requires
 slot-count-requires c κs = search needs
 
-add-t9 : tie.Need-add-t9
-add-t9 c = search needs
+index-of-requires : tie.Need-index-of-requires
+index-of-requires c κs = omega (arith, c .before .before .slot-count .ensures)
 
 returns : tie.Need-returns
 returns c =
@@ -35,8 +38,8 @@ returns c =
     let place-is : r .result .place ≡ place q (counted (args .t)) = rw (r .ensures) in
     let kind-is : r .result .kind ≡ getD (counted (args .t)) (r .result .place) free .settings .interface .kind = rw (r .ensures) in
     chosen-is (args .t) _ _
-    (rw (any-place q (counted (args .t)), count (c .before .before .before), ← place-is, lt-ltb _ _ (c .before .if1 .taken)))
-    (kind-is ∙ sym (stop-kind (args .t) (r .result .place)))
+    (c .index-of .ensures ∙ rw (any-place q (counted (args .t)), count (c .before .before .before), ← place-is, lt-ltb _ _ (c .before .if1 .taken)))
+    (kind-is ∙ sym (stop-kind (args .t) (r .result .place)) ∙ ap (λ (i : LinkIndex). interfaceAt (args .t) i .kind) (sym (c .index-of .ensures)))
 
 returns-2 : tie.Need-returns-2
 returns-2 c =
@@ -47,4 +50,4 @@ returns-2 c =
 
 pub link-or-dynamic-spec : {M : Type 1} → statement M
 link-or-dynamic-spec =
-    tie.close (tie.spec find-requires slot-count-requires add-t9 returns returns-2)
+    tie.close (tie.spec find-requires slot-count-requires index-of-requires returns returns-2)

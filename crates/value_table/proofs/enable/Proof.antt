@@ -2,33 +2,19 @@
 use Prim.Native.Nat.{_<_}
 use native.Mathlib.Omega.{arith}
 use mathlib.Core.Path.{_≡_, sym, _∙_}
-use mathlib.Core.Bool.{true}
 use lib.Dec.{lit<}
-use lib.ListN.{length}
-use borrow.Author.Tests.{ltb-true, not-false}
 use borrow.Author.Needs.{needs}
-use Rattle.octets.proofs.Laws.Runs.{length-mapped}
 use Rattle.replies.specs.Rules.{refusal}
-use Rattle.links.specs.Slots.{counted, any, place, unused}
+use Rattle.links.specs.Slots.{inUse, counted, place, unused}
 use Rattle.links.specs.Calls.{enable, rules, slotRules, tableAfter, linkAfter}
 use Rattle.links.proofs.Laws.Replies.{refused, done, by-settings, by-slots}
-use Rattle.links.proofs.Laws.Counted.{counted-length}
-use Rattle.links.proofs.Laws.Search.{any-place}
+use Rattle.value_slots.proofs.Laws.Place.{with-slot-at}
 use Rattle.value_table.proofs.enable.Statement.{statement}
 use Rattle.value_table.proofs.enable.Tie as tie
 
 -- the settings are good: the slots decide
 passed : (c : tie.Else1) → refusal (rules (counted (c .before .before .args .t)) (enable (c .before .before .args .s))) ≡ refusal (slotRules (counted (c .before .before .args .t)) (c .before .before .args .s))
 passed c = by-slots (counted (c .before .before .args .t)) (c .before .before .args .s) (sym (c .before .settings-refusal .ensures) ∙ c .if1 .left)
-
--- the unused slot is one of those that count
-below : (c : tie.After-first-unused) → c .first-unused .result < 64
-below c =
-    let t = c .before .before .before .before .before .before .before .before .before .args .t in
-    let all : length (t .slots) ≡ 64 = search (length-mapped, needs) in
-    let some : any unused (counted t) ≡ true = sym (c .before .before .has3 .ensures) ∙ not-false (c .before .before .has3 .result) (c .before .if4 .left) in
-    let there : place unused (counted t) < length (counted t) = ltb-true _ _ (sym (any-place unused (counted t)) ∙ some) in
-    rw (c .first-unused .ensures) (omega (arith, counted-length t 64 all))
 
 settings-refusal-requires : tie.Need-settings-refusal-requires
 settings-refusal-requires c κs = search needs
@@ -88,9 +74,6 @@ returns-4 c =
 first-unused-requires : tie.Need-first-unused-requires
 first-unused-requires c κs = search needs
 
-add-t11 : tie.Need-add-t11
-add-t11 c = omega (arith, below c)
-
 with-slot-requires : tie.Need-with-slot-requires
 with-slot-requires c κs = search needs
 
@@ -98,7 +81,7 @@ returns-5 : tie.Need-returns-5
 unfolding slotRules tableAfter linkAfter
 returns-5 c =
     let args = c .before .before .before .before .before .before .before .before .before .before .args in
-    rw (c .with-slot .ensures, c .before .first-unused .ensures)
+    rw (c .with-slot .ensures, c .before .first-unused .ensures, with-slot-at (args .t) (place unused (counted (args .t))) (inUse (args .s)))
     (sym (done (args .t) (enable (args .s))
     (passed (c .before .before .before .before .before .before .before .before) ∙ rw (← c .before .before .before .before .before .before .before .has .ensures, c .before .before .before .before .before .before .if2 .left, ← c .before .before .before .before .before .has2 .ensures, c .before .before .before .before .if3 .left, ← c .before .before .before .has3 .ensures, c .before .before .if4 .left))))
 
@@ -119,6 +102,5 @@ enable-spec =
     without-link-requires-4
     returns-4
     first-unused-requires
-    add-t11
     with-slot-requires
     returns-5)

@@ -15,11 +15,11 @@ interface-ok-requires-2 c κs = search needs
 
 returns : tie.Need-returns
 unfolding startValues
-returns c = rw (← c .before .before .before .before .before .mid-ok .ensures, ← c .before .before .interface-ok .ensures, ← c .before .interface-ok2 .ensures, c .if1 .taken)
+returns c = rw (← c .before .before .before .before .before .before .mid-ok .ensures, ← c .before .before .interface-ok .ensures, ← c .before .interface-ok2 .ensures, c .if1 .taken)
 
 returns-2 : tie.Need-returns-2
 unfolding startValues
-returns-2 c = rw (← c .before .before .before .before .before .mid-ok .ensures, ← c .before .before .interface-ok .ensures, ← c .before .interface-ok2 .ensures, c .if1 .left)
+returns-2 c = rw (← c .before .before .before .before .before .before .mid-ok .ensures, ← c .before .before .interface-ok .ensures, ← c .before .interface-ok2 .ensures, c .if1 .left)
 
 pub start-refusal-spec : {M : Type 1} → statement M
 start-refusal-spec =

@@ -7,9 +7,10 @@ use borrow.Author.Tests.{eq-eqb, ne-eqb, not-true, not-false}
 use borrow.Author.Needs.{needs}
 use Rattle.area.specs.declared.Area.{Area}
 use Rattle.ipv6.specs.Packet.{source, destination}
+use Rattle.links.specs.declared.LinkIndex.{LinkIndex}
 use Rattle.links.specs.Settings.{sameGround, reaches}
-use Rattle.links.specs.Slots.{counted}
-use Rattle.traffic.specs.Arrives.{indication, isArea, indexNumber, chosenFor}
+use Rattle.links.specs.Slots.{dgvlIndex, counted}
+use Rattle.traffic.specs.Arrives.{indication, isArea, linkIndex, chosenFor}
 use Rattle.traffic.proofs.Laws.Choice.{IndexOr, choose-topological, choose-other, index-unicast, index-area, index-no-area, index-kept, index-failing, chosen-by-index}
 use Rattle.links.proofs.Laws.Kinds.{topological-kind, dynamic-kind, chosen-is, chosen-index, chosen-kind}
 use Rattle.value_traffic.proofs.choice.chosen_for.Statement.{statement}
@@ -20,7 +21,7 @@ returns c =
     let args = c .before .before .before .before .args in
     let l = counted (args .t) in
     let x = indication (args .h) (args .packet .now) in
-    chosen-is (args .t) _ _ (sym (ap indexNumber (choose-topological l x (eq-eqb _ 4 (c .if1 .taken))))) (topological-kind (args .t))
+    chosen-is (args .t) _ _ (sym (ap linkIndex (choose-topological l x (eq-eqb _ 4 (c .if1 .taken))))) (topological-kind (args .t))
     ∙ chosen-by-index (args .t) x
 
 blank-slot-requires : tie.Need-blank-slot-requires
@@ -38,10 +39,10 @@ returns-2 c =
     let l = counted (args .t) in
     let x = indication (args .h) (args .packet .now) in
     let r = c .before .before .before .before .link-or-dynamic in
-    let found = chosen-index (args .t) (r .result) _ (r .ensures) ∙ ap (λ (a : List ℕ). IndexOr (λ s. reaches s a) l 1) (c .before .before .before .before .before .before .destination-of .ensures) in
+    let found = chosen-index (args .t) (r .result) _ (r .ensures) ∙ ap (λ (a : List ℕ). IndexOr (λ s. reaches s a) l dgvlIndex) (c .before .before .before .before .before .before .destination-of .ensures) in
     chosen-is (args .t) _ _
     (found
-    ∙ index-kept (λ s. reaches s (destination (x .packet))) l (IndexOr (λ s. reaches s (source (x .packet))) l 1) (λ e. c .if3 .taken (found ∙ e))
+    ∙ index-kept (λ s. reaches s (destination (x .packet))) l (IndexOr (λ s. reaches s (source (x .packet))) l dgvlIndex) (λ e. c .if3 .taken (ap (λ (i : LinkIndex). i .0) found ∙ e))
     ∙ sym (index-unicast l x (c .before .before .before .before .before .before .before .before .before .if2 .taken)))
     (chosen-kind (args .t) (r .result) _ (r .ensures))
     ∙ chosen-by-index (args .t) x
@@ -58,12 +59,12 @@ returns-3 c =
     let l = counted (args .t) in
     let x = indication (args .h) (args .packet .now) in
     let r = c .before .before .before .before .before .link-or-dynamic in
-    let found = chosen-index (args .t) (r .result) _ (r .ensures) ∙ ap (λ (a : List ℕ). IndexOr (λ s. reaches s a) l 1) (c .before .before .before .before .before .before .before .destination-of .ensures) in
+    let found = chosen-index (args .t) (r .result) _ (r .ensures) ∙ ap (λ (a : List ℕ). IndexOr (λ s. reaches s a) l dgvlIndex) (c .before .before .before .before .before .before .before .destination-of .ensures) in
     let q = c .link-or-dynamic2 in
     chosen-is (args .t) _ _
     (chosen-index (args .t) (q .result) _ (q .ensures)
-    ∙ ap (λ (a : List ℕ). IndexOr (λ s. reaches s a) l 1) (c .before .before .before .before .before .before .source-of .ensures)
-    ∙ index-failing (λ s. reaches s (destination (x .packet))) l (IndexOr (λ s. reaches s (source (x .packet))) l 1) (sym found ∙ c .before .if3 .left)
+    ∙ ap (λ (a : List ℕ). IndexOr (λ s. reaches s a) l dgvlIndex) (c .before .before .before .before .before .before .source-of .ensures)
+    ∙ index-failing (λ s. reaches s (destination (x .packet))) l (IndexOr (λ s. reaches s (source (x .packet))) l dgvlIndex) (sym (ap (λ (i : LinkIndex). i .0) found) ∙ c .before .if3 .left)
     ∙ sym (index-unicast l x (c .before .before .before .before .before .before .before .before .before .before .if2 .taken)))
     (chosen-kind (args .t) (q .result) _ (q .ensures))
     ∙ chosen-by-index (args .t) x
@@ -73,7 +74,7 @@ returns-4 c =
     let args = c .before .before .before .before .before .before .args in
     let l = counted (args .t) in
     let x = indication (args .h) (args .packet .now) in
-    chosen-is (args .t) _ _ (sym (ap indexNumber (choose-other l x (ne-eqb _ 4 (c .before .before .if1 .left)) (ne-eqb _ 1 (c .before .if2 .left)) (not-true _ (c .if4 .taken))))) (dynamic-kind (args .t))
+    chosen-is (args .t) _ _ (sym (ap linkIndex (choose-other l x (ne-eqb _ 4 (c .before .before .if1 .left)) (ne-eqb _ 1 (c .before .if2 .left)) (not-true _ (c .if4 .taken))))) (dynamic-kind (args .t))
     ∙ chosen-by-index (args .t) x
 
 enum-known-d : tie.Need-enum-known-d
@@ -110,7 +111,7 @@ returns-5 c =
 -- a destination that is no area is that of no stop link
 elsewhere : (c : tie.Else4) → let args = c .before .before .before .before .before .before .args in
     ((b : Area) → isArea (args .h .destination) b ≡ false)
-    → record { index = record { 0 = 1 }; kind = args .t .dgvl .kind } ≡ chosenFor (args .t) (indication (args .h) (args .packet .now))
+    → record { index = dgvlIndex; kind = args .t .dgvl .kind } ≡ chosenFor (args .t) (indication (args .h) (args .packet .now))
 elsewhere c none =
     let args = c .before .before .before .before .before .before .args in
     let x = indication (args .h) (args .packet .now) in
