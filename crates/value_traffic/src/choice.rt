@@ -10,6 +10,8 @@ use traffic::IndicationHead;
 use value_slots::Wanted;
 use value_slots::link_or_dynamic;
 ghost use mathlib.Core.Path.{_≡_};
+ghost use mathlib.Core.Bool.{_||_};
+ghost use lib.Dec.{eqb};
 ghost use Rattle.traffic.specs.Arrives.{indication, chosenFor};
 
 // Settings for a question about the area alone.
@@ -22,6 +24,13 @@ fn of_area(a: Area) -> Settings
         prefix: prefix,
         interface: Interface { kind: 0, flag: 0 },
     }
+}
+
+// Line 2 is for these transports.
+fn goes_by_area(transport: u8) -> bool
+    ensures { λ r. ⌜ r ≡ (eqb transport 2 || eqb transport 3) ⌝ }
+{
+    (transport == traffic::GEO_ANYCAST) | (transport == traffic::GEO_BROADCAST)
 }
 
 // The link by its index, and its kind.
@@ -54,7 +63,7 @@ pub fn chosen_for(t: Table, h: IndicationHead, packet: &[u8]) -> Chosen
         }
         return link_or_dynamic(t, Wanted::Reaching, s, from);
     }
-    if !((transport == traffic::GEO_ANYCAST) | (transport == traffic::GEO_BROADCAST)) {
+    if !goes_by_area(transport) {
         return dynamic;
     }
     let d = h.destination;

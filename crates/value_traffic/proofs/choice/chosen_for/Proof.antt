@@ -1,8 +1,9 @@
 -- `value_traffic::choice::chosen_for` meets its contract.
 use Prim.Native.Nat.{ℕ}
 use mathlib.Core.Path.{_≡_, sym, _∙_, ap}
-use mathlib.Core.Bool.{false}
+use mathlib.Core.Bool.{false, _||_}
 use mathlib.Core.List.{List}
+use lib.Dec.{eqb}
 use borrow.Author.Tests.{eq-eqb, ne-eqb, not-true, not-false}
 use borrow.Author.Needs.{needs}
 use Rattle.area.specs.declared.Area.{Area}
@@ -69,12 +70,19 @@ returns-3 c =
     (chosen-kind (args .t) (q .result) _ (q .ensures))
     ∙ chosen-by-index (args .t) x
 
+-- whether line 2 is asked
+by-area : (c : tie.After-goes-by-area) → let transport = c .before .before .before .before .before .before .args .h .transport in (eqb transport 2 || eqb transport 3) ≡ c .goes-by-area .result
+by-area c = sym (c .goes-by-area .ensures)
+
+goes-by-area-requires : tie.Need-goes-by-area-requires
+goes-by-area-requires c κs = search needs
+
 returns-4 : tie.Need-returns-4
 returns-4 c =
-    let args = c .before .before .before .before .before .before .args in
+    let args = c .before .before .before .before .before .before .before .args in
     let l = counted (args .t) in
     let x = indication (args .h) (args .packet .now) in
-    chosen-is (args .t) _ _ (sym (ap linkIndex (choose-other l x (ne-eqb _ 4 (c .before .before .if1 .left)) (ne-eqb _ 1 (c .before .if2 .left)) (not-true _ (c .if4 .taken))))) (dynamic-kind (args .t))
+    chosen-is (args .t) _ _ (sym (ap linkIndex (choose-other l x (ne-eqb _ 4 (c .before .before .before .if1 .left)) (ne-eqb _ 1 (c .before .before .if2 .left)) (by-area (c .before) ∙ not-true _ (c .if4 .taken))))) (dynamic-kind (args .t))
     ∙ chosen-by-index (args .t) x
 
 enum-known-d : tie.Need-enum-known-d
@@ -98,24 +106,24 @@ enum-told-2 c = search needs
 returns-5 : tie.Need-returns-5
 unfolding sameGround
 returns-5 c =
-    let args = c .before .before .before .before .before .before .before .before .before .before .before .before .args in
+    let args = c .before .before .before .before .before .before .before .before .before .before .before .before .before .args in
     let l = counted (args .t) in
     let x = indication (args .h) (args .packet .now) in
     let r = c .link-or-dynamic3 in
     chosen-is (args .t) _ _
     (chosen-index (args .t) (r .result) _ (r .ensures)
-    ∙ rw (c .before .before .of-area .ensures) (sym (index-area l x (not-false _ (c .before .before .before .before .before .before .if4 .left)) ∙ rw (c .before .before .before .before .d .given .1))))
+    ∙ rw (c .before .before .of-area .ensures) (sym (index-area l x (by-area (c .before .before .before .before .before .before .before) ∙ not-false _ (c .before .before .before .before .before .before .if4 .left)) ∙ rw (c .before .before .before .before .d .given .1))))
     (chosen-kind (args .t) (r .result) _ (r .ensures))
     ∙ chosen-by-index (args .t) x
 
 -- a destination that is no area is that of no stop link
-elsewhere : (c : tie.Else4) → let args = c .before .before .before .before .before .before .args in
+elsewhere : (c : tie.Else4) → let args = c .before .before .before .before .before .before .before .args in
     ((b : Area) → isArea (args .h .destination) b ≡ false)
     → record { index = dgvlIndex; kind = args .t .dgvl .kind } ≡ chosenFor (args .t) (indication (args .h) (args .packet .now))
 elsewhere c none =
-    let args = c .before .before .before .before .before .before .args in
+    let args = c .before .before .before .before .before .before .before .args in
     let x = indication (args .h) (args .packet .now) in
-    chosen-is (args .t) _ _ (sym (index-no-area (counted (args .t)) x (not-false _ (c .if4 .left)) none)) (dynamic-kind (args .t))
+    chosen-is (args .t) _ _ (sym (index-no-area (counted (args .t)) x (by-area (c .before) ∙ not-false _ (c .if4 .left)) none)) (dynamic-kind (args .t))
     ∙ chosen-by-index (args .t) x
 
 returns-6 : tie.Need-returns-6
@@ -136,6 +144,7 @@ chosen-for-spec =
     returns-2
     link-or-dynamic-requires-2
     returns-3
+    goes-by-area-requires
     returns-4
     enum-known-d
     of-area-requires
