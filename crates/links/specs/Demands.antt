@@ -24,7 +24,7 @@ pub record Refuses (t : Table) (c : TableCall) : Type 0 where
   pub unchanged : reply t c .number ≢ 0 → (reply t c .table ≡ t) × (reply t c .link ≡ Nothing)
 
 -- the table of these values without a stop link, in some memory: the slots that count are free, and those past them as they were
-pub record Empty (memory : List Slot) (v : StartValues) (t : Table) : Type 0 where
+pub record WithoutStops (memory : List Slot) (v : StartValues) (t : Table) : Type 0 where
   pub own : t .own ≡ v .own
   pub max : t .max ≡ v .max
   pub tvl : t .tvl ≡ v .tvl
@@ -39,7 +39,7 @@ pub record RefusesStart (most : ℕ) (memory : List Slot) (v : StartValues) : Ty
   pub exact : Exact (startValues most v) (start most memory v .number)
   pub noLink : start most memory v .number ≢ 0 → start most memory v .link ≡ Nothing
   pub plainTable : start most memory v .number ≢ 0
-      → Empty memory (record { own = 0; max = 2; tvl = record { kind = 1; flag = 1 }; dgvl = record { kind = 1; flag = 1 } }) (start most memory v .table)
+      → WithoutStops memory (record { own = 0; max = 2; tvl = record { kind = 1; flag = 1 }; dgvl = record { kind = 1; flag = 1 } }) (start most memory v .table)
 
 unfoldable pub TableDemand1 : Type 0
 TableDemand1 = ((t : Table) (c : TableCall) → Refuses t c) × ((most : ℕ) (memory : List Slot) (v : StartValues) → RefusesStart most memory v)
@@ -50,7 +50,7 @@ TableDemand1 = ((t : Table) (c : TableCall) → Refuses t c) × ((most : ℕ) (m
 -- a start that answers 0 gives the table of its values, with no stop link
 pub record Starts (most : ℕ) (memory : List Slot) (v : StartValues) : Type 0 where
   pub noLink : start most memory v .link ≡ Nothing
-  pub table : Empty memory v (start most memory v .table)
+  pub table : WithoutStops memory v (start most memory v .table)
 
 -- the two tables differ in slot k alone
 pub record DifferAt (k : ℕ) (t u : Table) : Type 0 where

@@ -22,7 +22,7 @@ use Rattle.links.specs.Settings.{settingsRules}
 use Rattle.links.specs.Slots.{placeOf, free, inUse, counted, slotAt, any, place, unused}
 use Rattle.links.specs.Calls.{TableCall, enable, disable, setArea, setOwn, slotRules, rules, linkAfter, tableAfter, answer, reply, withSlot, withArea, withOwn, startValues, fresh, plainStart, begin, start}
 use Rattle.links.specs.Reached.{Sound}
-use Rattle.links.specs.Demands.{Refuses, Empty, RefusesStart, TableDemand1, Starts, DifferAt, Adds, Removes, Sets, TableDemand2}
+use Rattle.links.specs.Demands.{Refuses, WithoutStops, RefusesStart, TableDemand1, Starts, DifferAt, Adds, Removes, Sets, TableDemand2}
 use Rattle.links.proofs.Laws.Search.{any-place, before-place, at-place}
 use Rattle.links.proofs.Laws.Counted.{enabled-below, slot-of-stop}
 use Rattle.links.proofs.Laws.Slots.{counted-with, cleared-blank, cleared-length, cleared-rest}
@@ -51,9 +51,9 @@ begin-number zero memory v = refl
 begin-number (suc n) memory v = refl
 
 -- the fresh table has no stop link
-fresh-empty : (memory : List Slot) (v : StartValues) → Empty memory v (fresh memory v)
+fresh-without-stops : (memory : List Slot) (v : StartValues) → WithoutStops memory v (fresh memory v)
 unfolding fresh
-fresh-empty memory v = record {
+fresh-without-stops memory v = record {
   own = refl;
   max = refl;
   tvl = refl;
@@ -65,13 +65,13 @@ fresh-empty memory v = record {
 }
 
 begin-refused : (n : ℕ) (memory : List Slot) (v : StartValues) → begin n memory v .number ≢ 0
-    → (begin n memory v .link ≡ Nothing) × Empty memory plainStart (begin n memory v .table)
+    → (begin n memory v .link ≡ Nothing) × WithoutStops memory plainStart (begin n memory v .table)
 begin-refused zero memory v h = absurd (h refl)
-begin-refused (suc n) memory v h = (refl, fresh-empty memory plainStart)
+begin-refused (suc n) memory v h = (refl, fresh-without-stops memory plainStart)
 
 begin-done : (n : ℕ) (memory : List Slot) (v : StartValues) → begin n memory v .number ≡ 0
-    → (begin n memory v .link ≡ Nothing) × Empty memory v (begin n memory v .table)
-begin-done zero memory v e = (refl, fresh-empty memory v)
+    → (begin n memory v .link ≡ Nothing) × WithoutStops memory v (begin n memory v .table)
+begin-done zero memory v e = (refl, fresh-without-stops memory v)
 begin-done (suc n) memory v e = absurd (omega arith)
 
 pub refuses-start : (most : ℕ) (memory : List Slot) (v : StartValues) → RefusesStart most memory v
