@@ -1,7 +1,5 @@
 // IPv6 as far as the rules need it: is a packet good, where are its addresses, and what they say of a MID.
 ghost use mathlib.Core.Path.{_≡_};
-ghost use Prim.Native.Nat.{_≤_};
-ghost use lib.ListN.{length};
 ghost use Rattle.octets.specs.Runs.{same};
 ghost use Rattle.replies.specs.Rules.{refusal};
 ghost use Rattle.ipv6.specs.Address.{multicast, zerosThen, loopback, unspecified};

@@ -1,8 +1,7 @@
 -- What the program writes is the listing.
 use Prim.Native.Nat.{ℕ, suc, _*_, _/_, _≤_}
 use native.Mathlib.Omega.{arith}
-use mathlib.Core.Path.{_≡_, refl, sym, _∙_, ap}
-use mathlib.Core.Bool.{true}
+use mathlib.Core.Path.{_≡_, refl, ap}
 use mathlib.Core.List.{List, [], _∷_, _++_}
 use lib.ListN.{length, take, drop, replicate, length-append, length-replicate}
 use lib.Seq.{take-at}
@@ -12,7 +11,7 @@ use Rattle.replay.specs.declared.Line.{Line}
 use Rattle.replay.specs.Day.{day, dayInto, given, indexIn, allNumbers, inFront}
 use Rattle.replay.proofs.Laws.Numbers.{four-each}
 use Rattle.replay.proofs.Laws.Days.{few}
-use Rattle.listing.specs.Text.{header, lineText, linkFrom, linesFrom, joined, textOf}
+use Rattle.listing.specs.Text.{header, linkFrom, linesFrom, joined, textOf}
 use Rattle.listing.proofs.Laws.Whole.{whole-text}
 use Rattle.daylist.specs.Listing.{lent, linesOf, linesText, listing, Prints}
 
