@@ -10,14 +10,14 @@ use Rattle.replies.specs.Rules.{Exact}
 use Rattle.ipv6.specs.Packet.{destination}
 use Rattle.ipv6.specs.Identifier.{linkLocal}
 use Rattle.links.specs.declared.LinkIndex.{LinkIndex}
-use Rattle.links.specs.declared.PerhapsLink.the-variants.{Nothing as NoLink}
+use Rattle.links.specs.declared.PerhapsLink.the-variants.{Link as Linked, Nothing as NoLink}
 use Rattle.links.specs.declared.Slot.{Slot}
 use Rattle.links.specs.declared.Table.{Table}
 use Rattle.links.specs.Slots.{Has, counted}
 use Rattle.links.specs.Index.{enabledAt, named}
 use Rattle.links.specs.Reached.{Reached}
 use Rattle.links.specs.Demands.{TableDemand1, TableDemand2}
-use Rattle.traffic.specs.Arrives.{Indication, Link, topological, dynamic, stop, choose, kindOf, indexOf, frameOrPacket, choiceRules, choiceOf, indicationRules, receive}
+use Rattle.traffic.specs.Arrives.{Indication, Link, topological, dynamic, stop, choose, kindOf, frameOrPacket, choiceRules, choiceOf, indicationRules, receive}
 use Rattle.traffic.specs.Leaves.{Request, requestRules, down, send, interfaceRules, interface}
 
 -- Demand 1
@@ -55,10 +55,16 @@ IsLink t topological = Unit {0}
 IsLink t dynamic = Unit {0}
 IsLink t (stop k s) = Has (counted t) k s
 
+-- link-fixed, link-lowest-index: the fixed links by their numbers, and slot k as the record of index k + 2
+abbrev pub linkNumber : Link → ℕ
+linkNumber topological = 0
+linkNumber dynamic = 1
+linkNumber (stop k s) = k + 2
+
 -- an indication that is done: on the link that the four lines choose, its frame or packet, and the rest of the buffer as it was
 pub record Delivers (t : Table) (x : Indication) (buffer : List ℕ) : Type 0 where
   pub isLink : IsLink t (choose (counted t) x)
-  pub link : receive t x buffer .reply .link ≡ indexOf (choose (counted t) x)
+  pub link : receive t x buffer .reply .link ≡ Linked (record { 0 = linkNumber (choose (counted t) x) })
   pub frameLength : receive t x buffer .reply .length ≡ length (frameOrPacket (kindOf t (choose (counted t) x)) x)
   pub source : receive t x buffer .reply .source ≡ x .source
   pub class : receive t x buffer .reply .class ≡ x .class

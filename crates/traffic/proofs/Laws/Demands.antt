@@ -15,7 +15,7 @@ use Rattle.ipv6.specs.Identifier.{linkLocal}
 use Rattle.links.specs.declared.LinkIndex.{LinkIndex}
 use Rattle.links.specs.declared.Named.{Named}
 use Rattle.links.specs.declared.PerhapsLink.{PerhapsLink}
-use Rattle.links.specs.declared.PerhapsLink.the-variants.{Nothing as NoLink}
+use Rattle.links.specs.declared.PerhapsLink.the-variants.{Link as Linked, Nothing as NoLink}
 use Rattle.links.specs.declared.Settings.{Settings}
 use Rattle.links.specs.declared.Table.{Table}
 use Rattle.links.specs.Slots.{counted}
@@ -24,9 +24,9 @@ use Rattle.links.proofs.Laws.Demands.{table-demand-1, table-demand-2}
 use Rattle.traffic.specs.declared.Choice.{Choice}
 use Rattle.traffic.specs.declared.InterfaceAddress.{InterfaceAddress}
 use Rattle.traffic.specs.declared.Sending.{Sending}
-use Rattle.traffic.specs.Arrives.{Indication, Received, Link, topological, dynamic, PerhapsStop, at, nowhere, stopBy, byArea, byDestination, bySource, failing, choose, kindOf, indexOf, chosenFor, choiceRules, choiceOr, choiceOf, frameOrPacket, deliver, refuse, unless, indicationRules, receive}
+use Rattle.traffic.specs.Arrives.{Indication, Received, Link, topological, dynamic, stop, PerhapsStop, at, nowhere, stopBy, byArea, byDestination, bySource, failing, choose, kindOf, indexOf, chosenFor, choiceRules, choiceOr, choiceOf, frameOrPacket, deliver, refuse, unless, indicationRules, receive}
 use Rattle.traffic.specs.Leaves.{Request, requestValues, linkRules, requestRules, sending, send, interfaceRules, answerInterface, interfaceOn, interface}
-use Rattle.traffic.specs.Demands.{RefusesIndication, RefusesChoice, RefusesRequest, Demand1, IsLink, Delivers, Foretells, Sends, Addresses, Demand2}
+use Rattle.traffic.specs.Demands.{RefusesIndication, RefusesChoice, RefusesRequest, Demand1, IsLink, linkNumber, Delivers, Foretells, Sends, Addresses, Demand2}
 use Rattle.traffic.proofs.Laws.Stops.{found-at}
 use Rattle.traffic.proofs.Laws.Receive.{indication-numbered, choice-numbered, received, received-unchosen, received-on, delivered, unchosen, chosen-on, room-left, room-for}
 use Rattle.traffic.proofs.Laws.Send.{request-numbered, interface-numbered, sending-done}
@@ -129,6 +129,11 @@ chosen-link t x = first (eqb (x .transport) 4)
     first true = tt
     first false = by (byArea x) _ (by (byDestination x) _ (by (bySource x) dynamic tt))
 
+by-number : (l : Link) → indexOf l ≡ Linked (record { 0 = linkNumber l })
+by-number topological = refl
+by-number dynamic = refl
+by-number (stop k s) = refl
+
 module _ (t : Table) where
   delivers : (x : Indication) (buffer : List ℕ) → receive t x buffer .reply .number ≡ 0 → Delivers t x buffer
   unfolding receive Given
@@ -140,7 +145,7 @@ module _ (t : Table) where
       let room = room-for x (length buffer) kind (room-left x (length buffer) good) in
       record {
         isLink = chosen-link t x;
-        link = ap (λ (r : Received). r .reply .link) done;
+        link = ap (λ (r : Received). r .reply .link) done ∙ by-number (choose (counted t) x);
         frameLength = ap (λ (r : Received). r .reply .length) done;
         source = ap (λ (r : Received). r .reply .source) done;
         class = ap (λ (r : Received). r .reply .class) done;
