@@ -23,7 +23,7 @@ fn list(input: &[u8], text: &mut [u8]) -> Written
     listing::write(&lines[..count * listing::NUMBERS], text)
 }
 
-// Room for the longest listing: 32,768 lines of 17 bytes, of records that have two bytes each.
+// Room for every listing: a record has two bytes or more, and a line at most 17, so that there are at most 557,071.
 fn room_for_text() -> [u8; 1048576]
     ensures { λ r. ⌜ 1048576 ≡ length r ⌝ }
 {
