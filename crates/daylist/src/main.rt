@@ -7,7 +7,7 @@ use listing::Written;
 ghost use mathlib.Core.Path.{_≡_};
 ghost use lib.ListN.{length};
 ghost use Rattle.replay.specs.Day.{allNumbers};
-ghost use Rattle.listing.specs.Room.{writtenOf, bufferOf};
+ghost use Rattle.listing.specs.Room.{writtenOf, textBuffer};
 ghost use Rattle.daylist.specs.Listing.{linesOf};
 
 // Input past these bytes counts as missing, and they have no more records than that.
@@ -15,7 +15,7 @@ const MOST: usize = 65536;
 
 // The listing's text, at the front of a lent buffer, as far as it has room for whole lines.
 fn list(input: &[u8], text: &mut [u8]) -> Written
-    ensures { λ r. ⌜ (r ≡ writtenOf (allNumbers (linesOf (now (input .entry)))) (now (text .entry))) × (now (text .exit) ≡ bufferOf (allNumbers (linesOf (now (input .entry)))) (now (text .entry))) ⌝ }
+    ensures { λ r. ⌜ (r ≡ writtenOf (allNumbers (linesOf (now (input .entry)))) (now (text .entry))) × (now (text .exit) ≡ textBuffer (allNumbers (linesOf (now (input .entry)))) (now (text .entry))) ⌝ }
 {
     let mut out = [0u8; 1294];
     let mut lines = [0u64; 262144];

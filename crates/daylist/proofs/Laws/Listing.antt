@@ -5,6 +5,7 @@ use mathlib.Core.Path.{_≡_, refl, ap}
 use mathlib.Core.List.{List, [], _∷_, _++_}
 use lib.ListN.{length, take, drop, replicate, length-append, length-replicate}
 use lib.Seq.{take-at}
+use borrow.Author.Tests.{leb-true, le-leb}
 use Rattle.links.specs.declared.PerhapsLink.{PerhapsLink}
 use Rattle.links.specs.declared.PerhapsLink.the-variants.{Link, Nothing}
 use Rattle.replay.specs.declared.Line.{Line}
@@ -12,6 +13,7 @@ use Rattle.replay.specs.Day.{day, dayInto, given, indexIn, allNumbers, inFront}
 use Rattle.replay.proofs.Laws.Numbers.{four-each}
 use Rattle.replay.proofs.Laws.Days.{few}
 use Rattle.listing.specs.Text.{header, linkFrom, linesFrom, joined, textOf}
+use Rattle.listing.specs.Room.{writtenOf}
 use Rattle.listing.proofs.Laws.Whole.{whole-text}
 use Rattle.daylist.specs.Listing.{lent, linesOf, linesText, listing, Prints}
 
@@ -30,10 +32,16 @@ unfolding textOf listing
 text-is input = ap (λ (text : List ℕ). header ++ text) (text-of-numbers 1 (linesOf input))
 
 pub prints : Prints
-unfolding Prints
-prints input buffer whole =
-    let written = whole-text (allNumbers (linesOf input)) buffer whole in
-    rw (written .0, written .1, text-is input) (take-at (listing input) (drop (length (listing input)) buffer) (length (listing input)) refl)
+unfolding Prints writtenOf
+prints input buffer =
+    let ns = allNumbers (linesOf input) in
+    let long : length (textOf ns) ≡ length (listing input) = ap length (text-is input) in
+    record {
+      told = (λ e. rw long at (leb-true (length (textOf ns)) (length buffer) e), λ h. le-leb (length (textOf ns)) (length buffer) (rw long h));
+      text = λ h.
+          let written = whole-text ns buffer (le-leb (length (textOf ns)) (length buffer) (rw long h)) in
+          rw (written .0, written .1, text-is input) (take-at (listing input) (drop (length (listing input)) buffer) (length (listing input)) refl);
+    }
 
 -- what a day's lines, stored in a run with room for all of them, leave there
 module _ (input part run : List ℕ) (count : ℕ) (e : part ≡ take 65_536 input) where

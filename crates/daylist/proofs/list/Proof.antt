@@ -5,7 +5,7 @@ use mathlib.Core.Path.{sym, _∙_, ap}
 use mathlib.Core.List.{List}
 use lib.Seq.{length-take-le}
 use borrow.Author.Needs.{needs}
-use Rattle.listing.specs.Room.{writtenOf, bufferOf}
+use Rattle.listing.specs.Room.{writtenOf, textBuffer}
 use Rattle.daylist.proofs.Laws.Listing.{few-lines, within, stored-numbers}
 use Rattle.daylist.proofs.list.Statement.{statement}
 use Rattle.daylist.proofs.list.Tie as tie
@@ -42,7 +42,7 @@ returns c =
     let stored = stored-numbers (c .before .before .before .before .before .before .before .before .before .before .before .before .before .args .input .now) (c .before .before .before .before .before .before .before .before .before .before .part .result .now) (c .before .before .before .before .before .before .before .day .last .1 .1 .0) (c .before .before .before .before .before .before .before .day .result) (c .before .before .before .before .before .before .before .before .before .before .part .ensures) (c .before .before .before .before .before .before .before .day .ensures .0) (c .before .before .before .before .before .before .before .day .ensures .2) in
     let text = c .before .before .before .before .before .before .before .before .before .before .before .before .before .args .text .now in
     let wrote = c .before .before .write in
-    (wrote .ensures .0 ∙ ap (λ (numbers : List ℕ). writtenOf numbers text) stored, wrote .ensures .1 ∙ ap (λ (numbers : List ℕ). bufferOf numbers text) stored)
+    (wrote .ensures .0 ∙ ap (λ (numbers : List ℕ). writtenOf numbers text) stored, wrote .ensures .1 ∙ ap (λ (numbers : List ℕ). textBuffer numbers text) stored)
 
 pub list-spec : {M : Type 1} → statement M
 list-spec =
