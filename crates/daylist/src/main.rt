@@ -10,7 +10,7 @@ ghost use Rattle.replay.specs.Day.{allNumbers};
 ghost use Rattle.listing.specs.Room.{writtenOf, textBuffer};
 ghost use Rattle.daylist.specs.Listing.{linesOf};
 
-// Input past these bytes counts as missing, and they have no more records than that.
+// Input past so many bytes counts as missing; a day of these has no more records than that.
 const MOST: usize = 65536;
 
 // The listing's text, at the front of a lent buffer, as far as it has room for whole lines.
