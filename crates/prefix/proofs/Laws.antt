@@ -1,2 +1,3 @@
 -- The laws of prefixes that the other crates cite.
+pub mod Words
 pub mod Overlap

@@ -1,22 +1,20 @@
-// RULES, Prefix: which addresses and prefixes a prefix holds, which two overlap, and which are good.
+// RULES, Prefix: which addresses and prefixes a prefix holds, which two overlap, and which are good. A prefix is its length and
+// two words, the first eight of its 16 bytes and the last eight: two compares decide what a loop over bytes would.
 ghost use mathlib.Core.Path.{_≡_};
-ghost use Prim.Native.Nat.{_+_, _*_, _-_, _/_, _%_, _^_, _≤_, _<_, min};
-ghost use lib.ListN.{length, take, drop};
+ghost use Prim.Native.Nat.{_<_};
+ghost use lib.ListN.{take, drop};
 ghost use Rattle.octets.specs.Digits.{bits};
 ghost use Rattle.octets.specs.Runs.{same, allZero};
-ghost use Rattle.prefix.specs.Prefix.{noPrefix, agrees, holds, holdsPrefix, overlap, goodPrefix, bytesNeeded};
+ghost use Rattle.prefix.specs.Prefix.{noPrefix, wordBytes, bytesOf, ofBytes, ofAddress, holds, holdsPrefix, overlap, goodPrefix, bytesNeeded};
 
 pub struct Prefix {
     pub len: u8,
-    pub bytes: [u8; 16],
+    pub high: u64,
+    pub low: u64,
 }
 
 // The longest length: an address has 128 bits.
 pub const LONGEST: u8 = 128;
-
-const LINK_LOCAL: [u8; 16] = [0xfe, 0x80, 0, 0, 0, 0, 0, 0, 0, 0, 0, 0, 0, 0, 0, 0];
-
-const MULTICAST: [u8; 16] = [0xff, 0, 0, 0, 0, 0, 0, 0, 0, 0, 0, 0, 0, 0, 0, 0];
 
 // The prefix that holds nothing.
 pub fn none() -> Prefix
@@ -24,18 +22,9 @@ pub fn none() -> Prefix
 {
     Prefix {
         len: 0,
-        bytes: [0; 16],
+        high: 0,
+        low: 0,
     }
-}
-
-// A length above that of an address asks for no more bits than it has.
-fn bit_count(len: u8) -> usize
-    ensures { λ r. ⌜ r ≡ min len 128 ⌝ }
-{
-    if LONGEST <= len {
-        return LONGEST as usize;
-    }
-    len as usize
 }
 
 // As many bytes as a length needs; a length above 128 needs no more than an address has.
@@ -48,83 +37,100 @@ pub fn bytes_needed(len: u64) -> usize
     ((len + 7) / 8) as usize
 }
 
-// The byte with the last of the first n bits.
-fn last_byte(n: usize) -> usize
-    requires { ⌜ n ≤ 128 ⌝ }
-    ensures { λ r. ⌜ (8 * r ≤ n) × (n ≤ 8 * r + 8) × (r < 16) ⌝ }
+// The 16 bytes that the two words stand for.
+pub fn bytes_of(p: Prefix) -> [u8; 16]
+    ensures { λ r. ⌜ r ≡ bytesOf p ⌝ }
 {
-    if n == 0 {
-        return 0;
+    [
+        (p.high / 0x100_0000_0000_0000 % 256) as u8,
+        (p.high / 0x1_0000_0000_0000 % 256) as u8,
+        (p.high / 0x100_0000_0000 % 256) as u8,
+        (p.high / 0x1_0000_0000 % 256) as u8,
+        (p.high / 0x100_0000 % 256) as u8,
+        (p.high / 0x1_0000 % 256) as u8,
+        (p.high / 0x100 % 256) as u8,
+        (p.high % 256) as u8,
+        (p.low / 0x100_0000_0000_0000 % 256) as u8,
+        (p.low / 0x1_0000_0000_0000 % 256) as u8,
+        (p.low / 0x100_0000_0000 % 256) as u8,
+        (p.low / 0x1_0000_0000 % 256) as u8,
+        (p.low / 0x100_0000 % 256) as u8,
+        (p.low / 0x1_0000 % 256) as u8,
+        (p.low / 0x100 % 256) as u8,
+        (p.low % 256) as u8,
+    ]
+}
+
+// The prefix with these 16 bytes; where there are fewer, those that are there make shorter words.
+pub fn of_bytes(len: u8, bytes: &[u8]) -> Prefix
+    ensures { λ r. ⌜ r ≡ ofBytes len (now (bytes .entry)) ⌝ }
+{
+    Prefix {
+        len: len,
+        high: octets::word(bytes, 0),
+        low: octets::word(bytes, 8),
     }
-    (n - 1) / 8
 }
 
-// The first k bits of a byte, as a number.
-fn first_bits(x: u8, k: usize) -> u32
-    requires { ⌜ k ≤ 8 ⌝ }
-    ensures { λ r. ⌜ r ≡ x / 2 ^ (8 - k) ⌝ }
+// The prefix that holds this address and no other: a search for what holds an address is then one for what overlaps. An address
+// is 16 bytes; where they are not there, the prefix that holds nothing.
+pub fn of_address(address: &[u8]) -> Prefix
+    ensures { λ r. ⌜ r ≡ ofAddress (now (address .entry)) ⌝ }
 {
-    (x as u32) >> (8 - k)
+    if address.len() != 16 {
+        return none();
+    }
+    of_bytes(LONGEST, address)
 }
 
-// The bits of a byte after its first k.
-fn bits_after(x: u8, k: usize) -> u32
-    requires { ⌜ k ≤ 8 ⌝ }
-    ensures { λ r. ⌜ r ≡ x % 2 ^ (8 - k) ⌝ }
+// Whether the first n bits are the same, of two addresses by their words; of more than 128 all are meant.
+fn same_first_bits(n: u8, high: u64, low: u64, high2: u64, low2: u64) -> bool
+    requires { ⌜ 0 < n ⌝ }
+    ensures { λ r. ⌜ r ≡ same (take n (bits (wordBytes high low))) (take n (bits (wordBytes high2 low2))) ⌝ }
 {
-    (x as u32) % (1 << (8 - k))
+    if n <= 64 {
+        return (high >> (64 - n)) == (high2 >> (64 - n));
+    }
+    if n < 128 {
+        return (high == high2) && ((low >> (128 - n)) == (low2 >> (128 - n)));
+    }
+    (high == high2) && (low == low2)
 }
 
-fn same_first_bits(n: usize, a: &[u8], b: &[u8]) -> bool
-    requires { ⌜ (n ≤ 128) × (length (now a) ≡ 16) × (length (now b) ≡ 16) ⌝ }
-    ensures { λ r. ⌜ r ≡ same (take n (bits (now (a .entry)))) (take n (bits (now (b .entry)))) ⌝ }
+// Whether no bit is set behind the first n: the first are shifted out.
+fn clear_after(n: u8, high: u64, low: u64) -> bool
+    ensures { λ r. ⌜ r ≡ allZero (drop n (bits (wordBytes high low))) ⌝ }
 {
-    let last = last_byte(n);
-    let k = n - 8 * last;
-    octets::equal(octets::part(a, 0, last), octets::part(b, 0, last))
-        & (first_bits(a[last], k) == first_bits(b[last], k))
-}
-
-fn clear_after(n: usize, a: &[u8]) -> bool
-    requires { ⌜ (n ≤ 128) × (length (now a) ≡ 16) ⌝ }
-    ensures { λ r. ⌜ r ≡ allZero (drop n (bits (now (a .entry)))) ⌝ }
-{
-    let zeros = [0u8; 16];
-    let last = last_byte(n);
-    (bits_after(a[last], n - 8 * last) == 0)
-        & octets::equal(
-            octets::part(a, last + 1, 16),
-            octets::part(&zeros, last + 1, 16),
-        )
-}
-
-fn begins(p: Prefix, bytes: &[u8]) -> bool
-    requires { ⌜ length (now bytes) ≡ 16 ⌝ }
-    ensures { λ r. ⌜ r ≡ agrees p (now (bytes .entry)) ⌝ }
-{
-    (0 < p.len) & same_first_bits(bit_count(p.len), &p.bytes, bytes)
+    if n < 64 {
+        return ((high << n) == 0) & (low == 0);
+    }
+    if n < 128 {
+        return (low << (n - 64)) == 0;
+    }
+    true
 }
 
 // Reads the address where it lies in the caller's bytes.
 pub fn holds_address(p: Prefix, address: &[u8]) -> bool
     ensures { λ r. ⌜ r ≡ holds p (now (address .entry)) ⌝ }
 {
-    if address.len() != 16 {
-        return false;
-    }
-    begins(p, address)
+    overlaps(p, of_address(address))
 }
 
 pub fn holds_prefix(p: Prefix, q: Prefix) -> bool
     ensures { λ r. ⌜ r ≡ holdsPrefix p q ⌝ }
 {
-    (p.len <= q.len) & begins(p, &q.bytes)
+    (p.len <= q.len) & overlaps(p, q)
 }
 
 pub fn overlaps(p: Prefix, q: Prefix) -> bool
     ensures { λ r. ⌜ r ≡ overlap p q ⌝ }
 {
-    (0 < p.len) & (0 < q.len) & (holds_prefix(p, q) | holds_prefix(q, p))
+    if !((0 < p.len) & (0 < q.len)) {
+        return false;
+    }
+    let n = if p.len <= q.len { p.len } else { q.len };
+    same_first_bits(n, p.high, p.low, q.high, q.low)
 }
 
 pub fn good(p: Prefix) -> bool
@@ -132,14 +138,16 @@ pub fn good(p: Prefix) -> bool
 {
     let link_local = Prefix {
         len: 10,
-        bytes: LINK_LOCAL,
+        high: 0xfe80_0000_0000_0000,
+        low: 0,
     };
     let multicast = Prefix {
         len: 8,
-        bytes: MULTICAST,
+        high: 0xff00_0000_0000_0000,
+        low: 0,
     };
     (p.len <= LONGEST)
-        & clear_after(bit_count(p.len), &p.bytes)
+        & clear_after(p.len, p.high, p.low)
         & !overlaps(p, link_local)
         & !overlaps(p, multicast)
 }

@@ -5,7 +5,7 @@ use native.Mathlib.Numerals.{add-one}
 use native.Mathlib.Omega.{arith}
 use mathlib.Core.Path.{_≡_, refl, sym, _∙_, ap}
 use mathlib.Core.List.{List, [], _∷_, _++_}
-use lib.ListN.{length, getD, take, drop, replicate, length-append}
+use lib.ListN.{length, getD, take, drop, replicate, length-append, take-append-drop}
 use lib.Arith.{digits-lt, digits-div, digits-mod, mod-mul}
 use lib.Pow.{pow-add}
 use Rattle.octets.specs.Digits.{digits, number}
@@ -86,6 +86,11 @@ module _ (b : ℕ) (some : 0 < b) where
   drop-digits zero w n = rw (let e : w - 0 ≡ w = omega arith in e)
   drop-digits (suc k) zero n = rw (let e : 0 - suc k ≡ 0 = omega arith in e)
   drop-digits (suc k) (suc w) n = rw (let e : suc w - suc k ≡ w - k = omega arith in e) (drop-digits k w n)
+
+  pub digits-append : (v w n : ℕ) → digits b (v + w) n ≡ digits b v (n / b ^ w) ++ digits b w n
+  digits-append v w n =
+      let less : v + w - v ≡ w = omega arith in
+      sym (rw (take-digits v (v + w) n (omega arith), drop-digits v (v + w) n, less) at (take-append-drop v (digits b (v + w) n)))
 
   pub digits-zero : (w : ℕ) → digits b w 0 ≡ replicate w 0
   unfolding digits

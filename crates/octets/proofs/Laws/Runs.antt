@@ -6,7 +6,7 @@ use mathlib.Core.Path.{_≡_, refl, sym, _∙_, ap, subst}
 use mathlib.Core.Bool.{Bool, true, false, _&&_, and-eq-true-iff, and-assoc}
 use mathlib.Core.List.{List, [], _∷_, _++_, map}
 use lib.Dec.{leb}
-use lib.ListN.{length, getD, take, drop, replicate, length-drop, length-replicate, length-map, drop-of-length-le}
+use lib.ListN.{length, getD, take, drop, replicate, length-take, length-drop, length-replicate, length-map}
 use lib.Seq.{take-all, drop-cons}
 use borrow.Author.Tests.{eqb-true, leb-true, leb-false}
 use Rattle.octets.specs.Runs.{same, allZero}
@@ -58,23 +58,31 @@ all-zero-end n k l e =
     rw (take-all n (drop k l) (omega arith), drop-replicate k n, take-all {A = ℕ} n (replicate (n - k) 0) (omega (arith, length-replicate {A = ℕ} (n - k) 0)), ← left)
     (all-zero-same (drop k l))
 
-at-min : (f : ℕ → List ℕ) (n m : ℕ) → (m < n → f m ≡ f n) → f (min n m) ≡ f n
-at-min f n m past = go (leb n m) refl
+-- no more can be taken of a run than it has
+pub take-min : (n m : ℕ) (l : List ℕ) → length l ≤ m → take (min n m) l ≡ take n l
+take-min n m l h = go (leb n m) refl
   where
-    go : (t : Bool) → leb n m ≡ t → f (min n m) ≡ f n
+    go : (t : Bool) → leb n m ≡ t → take (min n m) l ≡ take n l
     go true e = rw (let s : min n m ≡ n = omega (arith, leb-true n m e) in s)
     go false e =
         let over : m < n = leb-false n m e in
-        rw (let s : min n m ≡ m = omega arith in s) (past over)
+        rw (let s : min n m ≡ m = omega arith in s, take-all m l h, take-all n l (omega arith))
 
--- no more can be taken of a run, nor dropped, than it has
-pub take-min : (n m : ℕ) (l : List ℕ) → length l ≤ m → take (min n m) l ≡ take n l
-take-min n m l h = at-min (λ (k : ℕ). take k l) n m (λ over. take-all m l h ∙ sym (take-all n l (omega arith)))
+-- what is taken of two runs one behind the other, and what is left of them
+take-append : (n : ℕ) (a s : List ℕ) → take n (a ++ s) ≡ take n a ++ take (n - length a) s
+take-append zero a s = rw (zero-sub (length a))
+take-append (suc n) [] s = rw (sub-zero (suc n))
+take-append (suc n) (x ∷ a) s = rw (suc-sub-suc n (length a), take-append n a s)
 
-pub drop-min : (n m : ℕ) (l : List ℕ) → length l ≤ m → drop (min n m) l ≡ drop n l
-drop-min n m l h =
-    at-min (λ (k : ℕ). drop k l) n m
-    (λ over. drop-of-length-le l h ∙ sym (drop-of-length-le l (let all : length l ≤ n = omega arith in all)))
+pub drop-append : (n : ℕ) (a s : List ℕ) → drop n (a ++ s) ≡ drop n a ++ drop (n - length a) s
+drop-append zero a s = rw (zero-sub (length a))
+drop-append (suc n) [] s = rw (sub-zero (suc n))
+drop-append (suc n) (x ∷ a) s = rw (suc-sub-suc n (length a)) (drop-append n a s)
+
+pub same-first-append : (n : ℕ) (a b s t : List ℕ) → length a ≡ length b
+    → same (take n (a ++ s)) (take n (b ++ t)) ≡ (same (take n a) (take n b) && same (take (n - length a) s) (take (n - length a) t))
+same-first-append n a b s t e =
+    rw (take-append n a s, take-append n b t, same-append (take n a) (take n b) (take (n - length a) s) (take (n - length b) t) (rw (length-take n a, length-take n b, e)), e)
 
 -- n elements of a run from place k on, one by one
 abbrev pub spread : List ℕ → ℕ → ℕ → List ℕ

@@ -22,19 +22,10 @@ loop-holds : tie.Need-loop-holds Inv-loop μ-loop
 unfolding number
 loop-holds c = (omega arith, refl, lit< tt)
 
-mul-n : tie.Need-mul-n Inv-loop μ-loop
-mul-n c = let few = pow-le-pow-right {n = 256} (lit< tt) {i = c .before .loop .i} {j = 7} (omega arith) in omega arith
-
-shared-slice-read-n : tie.Need-shared-slice-read-n Inv-loop μ-loop
-shared-slice-read-n c = omega arith
-
-cast-n : tie.Need-cast-n Inv-loop μ-loop
-cast-n c = omega (arith, c .shared-slice-known .given (c .before .before .loop .i))
-
-add-n : tie.Need-add-n Inv-loop μ-loop
-add-n c =
-    let few = pow-le-pow-right {n = 256} (lit< tt) {i = c .before .before .loop .i} {j = 7} (omega arith) in
-    omega (arith, c .shared-slice-known .given (c .before .before .loop .i))
+with-byte-requires : tie.Need-with-byte-requires Inv-loop μ-loop
+with-byte-requires c κs =
+    let few = pow-le-pow-right {n = 256} (lit< tt) {i = c .before .loop .i} {j = 7} (omega arith) in
+    (omega arith, omega arith)
 
 add-i : tie.Need-add-i Inv-loop μ-loop
 add-i c = omega arith
@@ -45,18 +36,18 @@ loop-less c = omega arith
 loop-again : tie.Need-loop-again Inv-loop μ-loop
 loop-again c =
     let i = c .before .before .loop .i in
-    let s = c .before .before .before .args .s .now in
+    let s = c .before .before .before .before .args .s .now in
     let inv = c .before .before .loop .inv in (
       omega arith,
-      rw (add-one i, take-suc s i 0 (omega arith), number-snoc 256 (lit< tt) (take i s) (getD s i 0), inv .1),
-      rw (add-one i, pow-suc 256 i) (omega (arith, c .shared-slice-known .given i)),
+      rw (c .with-byte .ensures .0, add-one i, take-suc s i 0 (omega arith), number-snoc 256 (lit< tt) (take i s) (getD s i 0), inv .1),
+      rw (add-one i, pow-suc 256 i) (omega arith),
     )
 
 returns : tie.Need-returns Inv-loop μ-loop
 returns c =
-    let all : c .before .loop .i ≡ length (c .before .before .args .s .now) = omega arith in
+    let all : c .before .loop .i ≡ length (c .before .before .before .args .s .now) = omega arith in
     let inv = c .before .loop .inv in
-    (inv .1 ∙ rw (all, take-length (c .before .before .args .s .now)), rw all at (inv .2))
+    (inv .1 ∙ rw (all, take-length (c .before .before .before .args .s .now)), rw all at (inv .2))
 
 pub number-spec : {M : Type 1} → statement M
 number-spec =
@@ -65,10 +56,7 @@ number-spec =
     Inv-loop
     μ-loop
     loop-holds
-    mul-n
-    shared-slice-read-n
-    cast-n
-    add-n
+    with-byte-requires
     add-i
     loop-less
     loop-again

@@ -1,68 +1,42 @@
--- `prefix::clear_after`: of the last byte the bits behind those that count, and the bytes behind it whole.
-use Prim.Native.Nat.{_+_}
+-- `prefix::clear_after`: what is left of a word when its first bits are shifted out.
+use Prim.Native.Nat.{_-_, _^_, _<_}
+use native.Mathlib.Nat.{mod-one, mod-eq-of-lt}
 use native.Mathlib.Omega.{arith}
-use mathlib.Core.Path.{sym, _∙_}
+use mathlib.Core.Path.{_≡_}
 use borrow.Author.Needs.{needs}
-use Rattle.octets.proofs.Laws.Runs.{all-zero-end}
-use Rattle.octets.proofs.Laws.Bits.{clear-after-bits}
+use Rattle.prefix.proofs.Laws.Words.{clear-words, shifted-out}
 use Rattle.prefix.proofs.clear_after.Statement.{statement}
 use Rattle.prefix.proofs.clear_after.Tie as tie
 
-last-byte-requires : tie.Need-last-byte-requires
-last-byte-requires c κs = search needs
-
-shared-slice-read-bits-after : tie.Need-shared-slice-read-bits-after
-shared-slice-read-bits-after c = search needs
-
-mul-bits-after : tie.Need-mul-bits-after
-mul-bits-after c = search needs
-
-sub-bits-after : tie.Need-sub-bits-after
-sub-bits-after c = search needs
-
-bits-after-requires : tie.Need-bits-after-requires
-bits-after-requires c κs = search needs
-
-add-part : tie.Need-add-part
-add-part c = search needs
-
-part-requires : tie.Need-part-requires
-part-requires c κs = search needs
-
-slice-aggregate-part : tie.Need-slice-aggregate-part
-slice-aggregate-part c = search needs
-
-add-part-2 : tie.Need-add-part-2
-add-part-2 c = search needs
-
-part-requires-2 : tie.Need-part-requires-2
-part-requires-2 c κs = search needs
-
-equal-requires : tie.Need-equal-requires
-equal-requires c κs = search needs
+shl-result : tie.Need-shl-result
+shl-result c = search needs
 
 returns : tie.Need-returns
 returns c =
-    let args = c .before .before .before .before .before .before .before .before .args in
-    let last = c .before .before .before .before .before .before .last-byte in
-    rw (c .before .before .before .before .bits-after .ensures, c .equal .ensures, c .before .before .before .part .ensures, c .before .part2 .ensures)
-    (sym (clear-after-bits (args .n) (last .result) (last .ensures .0) (last .ensures .1) (args .a .now)
-    (λ i. c .before .before .before .before .before .before .before .shared-slice-known .given i .fits) (omega arith)
-    ∙ rw (all-zero-end 16 (last .result + 1) (args .a .now) (omega arith))))
+    let a = c .before .args in
+    let all : 64 - (a .n - 64) ≡ 64 = omega arith in
+    let low : a .low < 2 ^ 64 = search needs in
+    rw (shifted-out (a .n) (a .high) (omega arith), clear-words (a .n) (a .high) (a .low), all, mod-eq-of-lt low)
+
+cast-result : tie.Need-cast-result
+cast-result c = search needs
+
+shl-result-2 : tie.Need-shl-result-2
+shl-result-2 c = search needs
+
+returns-2 : tie.Need-returns-2
+returns-2 c =
+    let a = c .before .before .args in
+    let none : 64 - a .n ≡ 0 = omega arith in
+    rw (shifted-out (a .n - 64) (a .low) (omega arith), clear-words (a .n) (a .high) (a .low), none, mod-one (a .high))
+
+returns-3 : tie.Need-returns-3
+returns-3 c =
+    let a = c .before .before .args in
+    let none : 64 - a .n ≡ 0 = omega arith in
+    let nor : 64 - (a .n - 64) ≡ 0 = omega arith in
+    rw (clear-words (a .n) (a .high) (a .low), none, nor, mod-one (a .high), mod-one (a .low))
 
 pub clear-after-spec : {M : Type 1} → statement M
 clear-after-spec =
-    tie.close
-    (tie.spec
-    last-byte-requires
-    shared-slice-read-bits-after
-    mul-bits-after
-    sub-bits-after
-    bits-after-requires
-    add-part
-    part-requires
-    slice-aggregate-part
-    add-part-2
-    part-requires-2
-    equal-requires
-    returns)
+    tie.close (tie.spec shl-result returns cast-result shl-result-2 returns-2 returns-3)

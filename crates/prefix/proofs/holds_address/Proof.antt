@@ -1,20 +1,21 @@
 -- `prefix::holds_address` meets its contract.
-use borrow.Author.Tests.{eq-eqb, ne-eqb}
+use mathlib.Core.Path.{sym}
 use borrow.Author.Needs.{needs}
-use Rattle.prefix.specs.Prefix.{holds}
+use Rattle.prefix.proofs.Laws.Overlap.{holds-as-overlap}
 use Rattle.prefix.proofs.holds_address.Statement.{statement}
 use Rattle.prefix.proofs.holds_address.Tie as tie
 
+of-address-requires : tie.Need-of-address-requires
+of-address-requires c κs = search needs
+
+overlaps-requires : tie.Need-overlaps-requires
+overlaps-requires c κs = search needs
+
 returns : tie.Need-returns
-unfolding holds
-returns c = rw (ne-eqb _ _ (c .if1 .taken))
-
-begins-requires : tie.Need-begins-requires
-begins-requires c κs = search needs
-
-returns-2 : tie.Need-returns-2
-unfolding holds
-returns-2 c = rw (eq-eqb _ _ (c .before .if1 .left), c .begins .ensures)
+returns c =
+    let args = c .before .before .before .args in
+    rw (c .overlaps .ensures, c .before .of-address .ensures)
+    (sym (holds-as-overlap (args .p) (args .address .now) (λ i. c .before .before .shared-slice-known .given i .fits)))
 
 pub holds-address-spec : {M : Type 1} → statement M
-holds-address-spec = tie.close (tie.spec returns begins-requires returns-2)
+holds-address-spec = tie.close (tie.spec of-address-requires overlaps-requires returns)

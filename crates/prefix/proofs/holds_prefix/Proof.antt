@@ -1,15 +1,17 @@
 -- `prefix::holds_prefix` meets its contract.
+use mathlib.Core.Path.{sym}
 use borrow.Author.Needs.{needs}
-use Rattle.prefix.specs.Prefix.{holdsPrefix}
+use Rattle.prefix.proofs.Laws.Overlap.{held-as-overlap}
 use Rattle.prefix.proofs.holds_prefix.Statement.{statement}
 use Rattle.prefix.proofs.holds_prefix.Tie as tie
 
-begins-requires : tie.Need-begins-requires
-begins-requires c κs = search needs
+overlaps-requires : tie.Need-overlaps-requires
+overlaps-requires c κs = search needs
 
 returns : tie.Need-returns
-unfolding holdsPrefix
-returns c = rw (c .begins .ensures)
+returns c =
+    let args = c .before .before .before .args in
+    rw (c .overlaps .ensures) (sym (held-as-overlap (args .p) (args .q)))
 
 pub holds-prefix-spec : {M : Type 1} → statement M
-holds-prefix-spec = tie.close (tie.spec begins-requires returns)
+holds-prefix-spec = tie.close (tie.spec overlaps-requires returns)

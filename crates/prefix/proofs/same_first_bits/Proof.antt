@@ -1,61 +1,99 @@
--- `prefix::same_first_bits`: the bytes before the last are compared whole, and of the last byte the bits that count.
+-- `prefix::same_first_bits`: the first word by its first bits, or whole and then the second by its own.
+use Prim.Native.Nat.{_-_, _/_, _^_, _<_}
+use native.Mathlib.Nat.{div-one, div-eq-of-lt}
 use native.Mathlib.Omega.{arith}
-use mathlib.Core.Path.{sym}
+use mathlib.Core.Path.{_≡_}
+use mathlib.Core.Bool.{_&&_, and-true}
+use lib.Dec.{eqb}
+use lib.ListN.{take}
+use borrow.Author.Tests.{eq-eqb, ne-eqb}
 use borrow.Author.Needs.{needs}
-use Rattle.octets.proofs.Laws.Bits.{same-first-bits}
+use Rattle.octets.specs.Digits.{bits}
+use Rattle.octets.specs.Runs.{same}
+use Rattle.prefix.specs.Prefix.{wordBytes}
+use Rattle.prefix.proofs.Laws.Words.{same-words}
 use Rattle.prefix.proofs.same_first_bits.Statement.{statement}
 use Rattle.prefix.proofs.same_first_bits.Tie as tie
 
-last-byte-requires : tie.Need-last-byte-requires
-last-byte-requires c κs = search needs
+cast-result : tie.Need-cast-result
+cast-result c = search needs
 
-mul-k : tie.Need-mul-k
-mul-k c = search needs
+shr-result : tie.Need-shr-result
+shr-result c = search needs
 
-sub-k : tie.Need-sub-k
-sub-k c = search needs
+cast-result-2 : tie.Need-cast-result-2
+cast-result-2 c = search needs
 
-part-requires : tie.Need-part-requires
-part-requires c κs = search needs
-
-part-requires-2 : tie.Need-part-requires-2
-part-requires-2 c κs = search needs
-
-equal-requires : tie.Need-equal-requires
-equal-requires c κs = search needs
-
-shared-slice-read-first-bits : tie.Need-shared-slice-read-first-bits
-shared-slice-read-first-bits c = search needs
-
-first-bits-requires : tie.Need-first-bits-requires
-first-bits-requires c κs = search needs
-
-shared-slice-read-first-bits-2 : tie.Need-shared-slice-read-first-bits-2
-shared-slice-read-first-bits-2 c = search needs
-
-first-bits-requires-2 : tie.Need-first-bits-requires-2
-first-bits-requires-2 c κs = search needs
+shr-result-2 : tie.Need-shr-result-2
+shr-result-2 c = search needs
 
 returns : tie.Need-returns
 returns c =
-    let args = c .before .before .before .before .before .before .before .before .before .before .args in
-    let last = c .before .before .before .before .before .before .before .last-byte in
-    rw (c .before .before .first-bits .ensures, c .first-bits2 .ensures, c .before .before .before .before .equal .ensures, c .before .before .before .before .before .before .part .ensures, c .before .before .before .before .before .part2 .ensures)
-    (sym (same-first-bits (args .n) (last .result) (last .ensures .0) (last .ensures .1) (args .a .now) (args .b .now)
-    (λ i. c .before .before .before .before .before .before .before .before .before .shared-slice-known .given i .fits) (λ i. c .before .before .before .before .before .before .before .before .shared-slice-known2 .given i .fits) (omega arith) (omega arith)))
+    let a = c .before .args in
+    let none : a .n - 64 ≡ 0 = omega arith in
+    let low : a .low < 2 ^ 64 = search needs in
+    let low2 : a .low2 < 2 ^ 64 = search needs in
+    rw (same-words (a .n) (a .high) (a .low) (a .high2) (a .low2) (search needs) low (search needs) low2, none, div-eq-of-lt low, div-eq-of-lt low2, and-true)
+
+-- where the first word is asked for whole
+past : (c : tie.Else1) → (let a = c .before .args in
+    same (take (a .n) (bits (wordBytes (a .high) (a .low)))) (take (a .n) (bits (wordBytes (a .high2) (a .low2))))
+    ≡ (eqb (a .high) (a .high2) && eqb (a .low / 2 ^ (128 - a .n)) (a .low2 / 2 ^ (128 - a .n))))
+past c =
+    let a = c .before .args in
+    let all : 64 - a .n ≡ 0 = omega arith in
+    let rest : 64 - (a .n - 64) ≡ 128 - a .n = omega arith in
+    rw (same-words (a .n) (a .high) (a .low) (a .high2) (a .low2) (search needs) (search needs) (search needs) (search needs), all, rest, div-one (a .high), div-one (a .high2))
+
+sub-result : tie.Need-sub-result
+sub-result c = search needs
+
+cast-result-3 : tie.Need-cast-result-3
+cast-result-3 c = search needs
+
+shr-result-3 : tie.Need-shr-result-3
+shr-result-3 c = search needs
+
+sub-result-2 : tie.Need-sub-result-2
+sub-result-2 c = search needs
+
+cast-result-4 : tie.Need-cast-result-4
+cast-result-4 c = search needs
+
+shr-result-4 : tie.Need-shr-result-4
+shr-result-4 c = search needs
+
+returns-2 : tie.Need-returns-2
+returns-2 c = rw (past (c .before .before), eq-eqb _ _ (c .if3 .taken))
+
+returns-3 : tie.Need-returns-3
+returns-3 c = rw (past (c .before .before), ne-eqb _ _ (c .if3 .left))
+
+returns-4 : tie.Need-returns-4
+returns-4 c =
+    let a = c .before .before .before .args in
+    let all : 128 - a .n ≡ 0 = omega arith in
+    rw (past (c .before .before), eq-eqb _ _ (c .if4 .taken), all, div-one (a .low), div-one (a .low2))
+
+returns-5 : tie.Need-returns-5
+returns-5 c = rw (past (c .before .before), ne-eqb _ _ (c .if4 .left))
 
 pub same-first-bits-spec : {M : Type 1} → statement M
 same-first-bits-spec =
     tie.close
     (tie.spec
-    last-byte-requires
-    mul-k
-    sub-k
-    part-requires
-    part-requires-2
-    equal-requires
-    shared-slice-read-first-bits
-    first-bits-requires
-    shared-slice-read-first-bits-2
-    first-bits-requires-2
-    returns)
+    cast-result
+    shr-result
+    cast-result-2
+    shr-result-2
+    returns
+    sub-result
+    cast-result-3
+    shr-result-3
+    sub-result-2
+    cast-result-4
+    shr-result-4
+    returns-2
+    returns-3
+    returns-4
+    returns-5)
