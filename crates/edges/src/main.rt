@@ -38,11 +38,8 @@ fn settings(area: Area, len: u8, first: u8) -> Settings {
     bytes[0] = first;
     Settings {
         area: area,
-        prefix: Prefix {
-            len: len,
-            bytes: bytes,
-        },
         interface: plain(),
+        prefix: prefix::of_bytes(len, &bytes),
     }
 }
 

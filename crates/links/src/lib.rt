@@ -38,11 +38,12 @@ pub struct Interface {
     pub flag: u8,
 }
 
-// What a stop link is enabled with.
+// What a stop link is enabled with. The prefix stands last: the interface fills the room that its words leave before them, and a
+// slot takes 56 bytes, not 64.
 pub struct Settings {
     pub area: Area,
-    pub prefix: Prefix,
     pub interface: Interface,
+    pub prefix: Prefix,
 }
 
 // The record of one stop index: the first slot is that of the first stop index.
@@ -107,8 +108,8 @@ pub fn blank_slot() -> Slot
     let prefix = prefix::none();
     let settings = Settings {
         area: area,
-        prefix: prefix,
         interface: Interface { kind: 0, flag: 0 },
+        prefix: prefix,
     };
     Slot {
         enabled: false,

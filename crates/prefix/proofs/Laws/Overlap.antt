@@ -1,22 +1,22 @@
 -- What two prefixes have to do with each other: all that the other crates know of `holds` and `overlap`.
-use Prim.Native.Nat.{ℕ, _+_, _≤_, min}
+use Prim.Native.Nat.{ℕ, _≤_, min}
 use native.Mathlib.Nat.{le-total, min-le-left, min-le-right, min-comm, min-eq-left, lt-of-lt-of-le}
 use native.Mathlib.Omega.{arith}
 use mathlib.Core.Path.{_≡_, refl, sym, _∙_, ap}
 use mathlib.Core.Logic.{Or·elim}
 use mathlib.Core.Bool.{Bool, true, false, cond, _&&_, and-eq-true-iff, and-true, and-false, or-eq-true-iff, So-prop, or-comm, or-true}
 use mathlib.Core.List.{List}
-use lib.Dec.{eqb, leb, ltb, lit<}
-use lib.ListN.{length, take, drop}
-use lib.Seq.{take-take, take-all}
+use lib.Dec.{eqb, leb, ltb}
+use lib.ListN.{length, take}
+use lib.Seq.{take-take}
 use borrow.Author.Tests.{le-leb, leb-true, lt-ltb, ltb-true, eqb-true}
-use Rattle.octets.specs.Digits.{digits, bits, bigEndian}
+use Rattle.octets.specs.Digits.{bits}
 use Rattle.octets.specs.Runs.{same}
 use Rattle.octets.proofs.Laws.Tests.{alike}
-use Rattle.octets.proofs.Laws.Runs.{same-true, eq-same, take-min, spread, part-spread}
-use Rattle.octets.proofs.Laws.Digits.{Below, below-spread, digits-number}
+use Rattle.octets.proofs.Laws.Runs.{same-true, eq-same, take-min}
+use Rattle.octets.proofs.Laws.Digits.{Below}
 use Rattle.octets.proofs.Laws.Bits.{length-bits}
-use Rattle.prefix.proofs.Laws.Words.{length-words}
+use Rattle.prefix.proofs.Laws.Words.{length-words, bytes-of-bytes}
 use Rattle.prefix.specs.declared.Prefix.{Prefix}
 use Rattle.prefix.specs.Prefix.{bytesOf, ofBytes, ofAddress, noPrefix, agrees, holds, holdsPrefix, overlap}
 
@@ -96,12 +96,6 @@ held-as-overlap p q =
     (λ e. let h = simp and-eq-true-iff at e in
     let parts = simp and-eq-true-iff at (sym (overlap-shorter p q) ∙ h .1) in
     shared-held p q (leb-true (p .len) (q .len) (h .0)) (parts .0 .0) (same-true _ _ (parts .1)))
-
-pub bytes-of-bytes : (n : ℕ) (l : List ℕ) → length l ≡ 16 → Below 256 l → bytesOf (ofBytes n l) ≡ l
-bytes-of-bytes n l e h =
-    let half : (k : ℕ) → k + 8 ≤ length l → digits 256 8 (bigEndian (take 8 (drop k l))) ≡ spread l k 8 =
-    λ k few. rw (part-spread l k 8 few) (digits-number 256 (lit< tt) (spread l k 8) (below-spread 256 l k 8 (lit< tt) h)) in
-    rw (half 0 (omega arith), half 8 (omega arith)) (sym (sym (take-all 16 l (omega arith)) ∙ part-spread l 0 16 (omega arith)))
 
 -- what holds an address is what overlaps the prefix of this address alone
 pub holds-as-overlap : (p : Prefix) (a : List ℕ) → Below 256 a → holds p a ≡ overlap p (ofAddress a)

@@ -1,21 +1,23 @@
--- The bits of two words: which numbers decide the first n of them, and which those behind.
+-- Two words and their bytes; which numbers decide the first n of their bits, and which those behind.
 use Prim.Native.Nat.{ℕ, _+_, _*_, _-_, _/_, _%_, _^_, _≤_, _<_}
-use native.Mathlib.Nat.{add-zero, zero-mul, mul-mod-left, eq-of-mul-eq-mul-right}
+use native.Mathlib.Nat.{add-zero, zero-mul, mod-eq-of-lt, mul-mod-left, eq-of-mul-eq-mul-right}
 use native.Mathlib.Omega.{arith}
 use mathlib.Core.Path.{_≡_, refl, sym, _∙_}
 use mathlib.Core.Bool.{_&&_}
-use mathlib.Core.List.{_++_}
+use mathlib.Core.List.{List, _++_}
 use lib.Dec.{eqb, lit<}
 use lib.ListN.{length, take, drop}
+use lib.Seq.{take-all, take-at, drop-at}
 use lib.Pow.{pow-pos, shl-shr, mod-pow-add}
 use borrow.Author.Tests.{eqb-true, eq-eqb}
-use Rattle.octets.specs.Digits.{digits, bits}
+use Rattle.octets.specs.Digits.{digits, bigEndian, bits}
 use Rattle.octets.specs.Runs.{same, allZero}
 use Rattle.octets.proofs.Laws.Tests.{alike}
-use Rattle.octets.proofs.Laws.Runs.{same-first-append, drop-append, all-zero-append}
-use Rattle.octets.proofs.Laws.Digits.{length-digits, drop-digits}
+use Rattle.octets.proofs.Laws.Runs.{same-first-append, drop-append, all-zero-append, spread, part-spread}
+use Rattle.octets.proofs.Laws.Digits.{Below, below-spread, length-digits, number-digits, digits-number, drop-digits}
 use Rattle.octets.proofs.Laws.Bits.{same-first, all-zero-digits, bits-append, bits-digits}
-use Rattle.prefix.specs.Prefix.{wordBytes}
+use Rattle.prefix.specs.declared.Prefix.{Prefix}
+use Rattle.prefix.specs.Prefix.{wordBytes, bytesOf, ofBytes}
 
 two : 0 < 2
 two = lit< tt
@@ -23,6 +25,21 @@ two = lit< tt
 pub length-words : (high low : ℕ) → length (wordBytes high low) ≡ 16
 unfolding digits
 length-words high low = refl
+
+-- bytes are those of their prefix, and a prefix is that of its bytes
+pub bytes-of-bytes : (n : ℕ) (l : List ℕ) → length l ≡ 16 → Below 256 l → bytesOf (ofBytes n l) ≡ l
+bytes-of-bytes n l e h =
+    let half : (k : ℕ) → k + 8 ≤ length l → digits 256 8 (bigEndian (take 8 (drop k l))) ≡ spread l k 8 =
+    λ k few. rw (part-spread l k 8 few) (digits-number 256 (lit< tt) (spread l k 8) (below-spread 256 l k 8 (lit< tt) h)) in
+    rw (half 0 (omega arith), half 8 (omega arith)) (sym (sym (take-all 16 l (omega arith)) ∙ part-spread l 0 16 (omega arith)))
+
+pub of-bytes-of : (p : Prefix) → p .high < 2 ^ 64 → p .low < 2 ^ 64 → ofBytes (p .len) (bytesOf p) ≡ p
+of-bytes-of p h l =
+    let first = digits 256 8 (p .high) in
+    let second = digits 256 8 (p .low) in
+    let long = length-digits 256 (lit< tt) 8 (p .high) in
+    let last : take 8 second ≡ second = take-all 8 second (omega (arith, length-digits 256 (lit< tt) 8 (p .low))) in
+    rw (take-at first second 8 long, drop-at first second 8 long, last, number-digits 256 (lit< tt) 8 (p .high), number-digits 256 (lit< tt) 8 (p .low), mod-eq-of-lt h, mod-eq-of-lt l)
 
 bits-words : (high low : ℕ) → bits (wordBytes high low) ≡ digits 2 64 high ++ digits 2 64 low
 bits-words high low = rw (bits-append (digits 256 8 high) (digits 256 8 low), bits-digits 8 high, bits-digits 8 low)
