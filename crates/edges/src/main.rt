@@ -7,7 +7,6 @@ use links::PerhapsLink;
 use links::Settings;
 use links::StartValues;
 use links::Table;
-use prefix::Prefix;
 use traffic::Destination;
 use traffic::IndicationHead;
 

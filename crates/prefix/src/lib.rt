@@ -73,14 +73,19 @@ pub fn of_bytes(len: u8, bytes: &[u8]) -> Prefix
 }
 
 // The prefix that holds this address and no other: a search for what holds an address is then one for what overlaps. An address
-// is 16 bytes; where they are not there, the prefix that holds nothing.
+// is 16 bytes; where they are not there, the prefix that holds nothing. Its words are read here and not by of_bytes, so that their
+// length is known where they are loaded.
 pub fn of_address(address: &[u8]) -> Prefix
     ensures { λ r. ⌜ r ≡ ofAddress (now (address .entry)) ⌝ }
 {
     if address.len() != 16 {
         return none();
     }
-    of_bytes(LONGEST, address)
+    Prefix {
+        len: LONGEST,
+        high: octets::word(address, 0),
+        low: octets::word(address, 8),
+    }
 }
 
 // Whether the first n bits are the same, of two addresses by their words; of more than 128 all are meant.

@@ -10,11 +10,15 @@ none-requires c κs = search needs
 returns : tie.Need-returns
 returns c = rw (c .none .ensures, ne-eqb _ _ (c .before .if1 .taken))
 
-of-bytes-requires : tie.Need-of-bytes-requires
-of-bytes-requires c κs = search needs
+word-requires : tie.Need-word-requires
+word-requires c κs = search needs
+
+word-requires-2 : tie.Need-word-requires-2
+word-requires-2 c κs = search needs
 
 returns-2 : tie.Need-returns-2
-returns-2 c = rw (c .of-bytes .ensures, eq-eqb _ _ (c .before .if1 .left))
+returns-2 c = rw (c .before .word .ensures, c .word2 .ensures, eq-eqb _ _ (c .before .before .if1 .left))
 
 pub of-address-spec : {M : Type 1} → statement M
-of-address-spec = tie.close (tie.spec none-requires returns of-bytes-requires returns-2)
+of-address-spec =
+    tie.close (tie.spec none-requires returns word-requires word-requires-2 returns-2)
