@@ -12,7 +12,7 @@ use traffic::Sending;
 ghost use mathlib.Core.Path.{_≡_};
 ghost use mathlib.Core.List.{[]};
 ghost use Rattle.replies.specs.Rules.{refusal};
-ghost use Rattle.traffic.specs.Leaves.{request, neighbourOk, neighbourOf, isUnset, within, requestValues, notSent, sendOn, interfaceOn};
+ghost use Rattle.traffic.specs.Leaves.{request, neighbourOk, neighbourOf, isUnset, within, requestValues, notSent, sendNamed, sendOn, interfaceOn};
 
 fn neighbour_ok(neighbour: PerhapsMid) -> bool
     ensures { λ r. ⌜ r ≡ neighbourOk neighbour ⌝ }
@@ -121,6 +121,17 @@ pub fn send_on(link: Named, h: RequestHead, packet: &[u8]) -> Sending
         ),
         PerhapsMid::Nothing => not_sent(replies::NEIGHBOUR_UNKNOWN),
     }
+}
+
+// A request on the link that its index names: its values are asked first.
+pub fn request_on(link: Named, h: RequestHead, packet: &[u8]) -> Sending
+    ensures { λ r. ⌜ r ≡ sendNamed link (request h (now (packet .entry))) ⌝ }
+{
+    let bad = request_values_refusal(h);
+    if bad != replies::DONE {
+        return not_sent(bad);
+    }
+    send_on(link, h, packet)
 }
 
 // The interface address of a link that is enabled or not, in a box with this own MID.

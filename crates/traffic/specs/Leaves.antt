@@ -114,7 +114,11 @@ sending (suc n) l q = notSent (suc n)
 unfoldable pub send : Table → Request → Sending
 send t q = sending (refusal (requestRules t q)) (named t (q .index)) q
 
--- the half that knows no layout: a request whose values are good, on the link that its index names
+-- the half that knows no layout: a request on the link that its index names
+unfoldable pub sendNamed : Named → Request → Sending
+sendNamed l q = sending (refusal (requestValues q ++ linkRules l q)) l q
+
+-- where its values are good
 unfoldable pub sendOn : Named → Request → Sending
 sendOn l q = sending (refusal (linkRules l q)) l q
 

@@ -1,15 +1,19 @@
 -- What the search over slots looks for, by the question asked; and the slot of a link, by its index.
-use Prim.Native.Nat.{ℕ}
-use mathlib.Core.Bool.{Bool, cond}
+use Prim.Native.Nat.{ℕ, _-_, min}
+use mathlib.Core.Bool.{Bool, cond, _||_}
 use mathlib.Core.List.{List}
+use lib.Dec.{eqb, leb, ltb}
 use lib.ListN.{getD}
+use Rattle.links.specs.declared.Interface.{Interface}
 use Rattle.links.specs.declared.LinkIndex.{LinkIndex}
+use Rattle.links.specs.declared.Named.{Named}
+use Rattle.links.specs.declared.PerhapsArea.{PerhapsArea}
+use Rattle.links.specs.declared.PerhapsArea.the-variants.{Set, Unset}
 use Rattle.links.specs.declared.Settings.{Settings}
 use Rattle.links.specs.declared.Slot.{Slot}
 use Rattle.links.specs.declared.Table.{Table}
 use Rattle.links.specs.Settings.{sameGround, overlaps, reaches}
-use Rattle.links.specs.Slots.{isFixed, placeOf, free, counted, unused, with}
-use Rattle.links.specs.Calls.{withSlot}
+use Rattle.links.specs.Slots.{tvlIndex, dgvlIndex, isFixed, placeOf, free, counted, unused, with}
 use Rattle.value_slots.specs.declared.Found.{Found}
 use Rattle.value_slots.specs.declared.Wanted.{Wanted}
 use Rattle.value_slots.specs.declared.Wanted.the-variants.{Unused, SameGround, Overlapping, Reaching}
@@ -28,6 +32,18 @@ found t k = record { place = k; kind = getD (counted t) k free .settings .interf
 abbrev pub slotPlace : LinkIndex → ℕ
 slotPlace i = cond (isFixed i) 64 (placeOf i)
 
--- the table with another slot for a link; a fixed link has none to replace
-abbrev pub withSlotOf : Table → LinkIndex → Slot → Table
-withSlotOf t i x = cond (isFixed i) t (withSlot t (placeOf i) x)
+-- where it is read: past the last slot nothing is, and the first is read instead
+abbrev pub placeIn : LinkIndex → ℕ
+placeIn i = cond (ltb (slotPlace i) 64) (slotPlace i) 0
+
+-- the slot of a link, from what stands at its place; a fixed link and an index that does not count have none
+abbrev pub slotFrom : ℕ → LinkIndex → Slot → Slot
+slotFrom max i x = cond (leb (min (max - 1) 64) (slotPlace i)) free x
+
+-- the link that an index names, by the fixed links, the area of the DGVL, and its slot
+abbrev pub namedFrom : Interface → Interface → PerhapsArea → LinkIndex → Slot → Named
+namedFrom tvl dgvl area i x = record {
+  enabled = isFixed i || x .enabled;
+  interface = cond (eqb (i .0) (tvlIndex .0)) tvl (cond (eqb (i .0) (dgvlIndex .0)) dgvl (x .settings .interface));
+  area = cond (eqb (i .0) (tvlIndex .0)) Unset (cond (eqb (i .0) (dgvlIndex .0)) area (Set (x .settings .area)));
+}

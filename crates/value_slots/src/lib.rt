@@ -10,10 +10,10 @@ use links::Table;
 ghost use mathlib.Core.Path.{_≡_};
 ghost use mathlib.Core.List.{[]};
 ghost use mathlib.Core.Bool.{cond};
-ghost use Prim.Native.Nat.{_-_, _≤_, min};
+ghost use Prim.Native.Nat.{_-_, _≤_, _<_, min};
 ghost use Rattle.links.specs.Slots.{dgvlIndex, indexAt, counted, slotAt, any, place, unused};
 ghost use Rattle.links.specs.Index.{chosen};
-ghost use Rattle.value_slots.specs.Search.{passes, found, slotPlace, withSlotOf};
+ghost use Rattle.value_slots.specs.Search.{passes, found, slotPlace, placeIn, slotFrom};
 
 // Which slot is looked for.
 pub enum Wanted {
@@ -137,24 +137,33 @@ pub fn first_unused(t: Table) -> LinkIndex
     index_of(first_place(t, Wanted::Unused, any.settings, b""))
 }
 
-// The slot of a link; a blank one for a fixed link and for an index that does not count.
-pub fn slot_at(t: Table, index: LinkIndex) -> Slot
-    ensures { λ r. ⌜ r ≡ slotAt (counted t) index ⌝ }
-{
-    let k = place_of(index);
-    if slot_count(t.max) <= k {
-        return links::blank_slot();
-    }
-    t.slots[k]
-}
-
-// The table with another slot for a link; a fixed link and an index past the last slot have none to replace.
-pub fn with_slot(mut t: Table, index: LinkIndex, x: Slot) -> Table
-    ensures { λ r. ⌜ r ≡ withSlotOf t index x ⌝ }
+// Where the slot of a link stands; the first place for a fixed link and past the last slot, which have none.
+pub fn place_in(index: LinkIndex) -> usize
+    ensures { λ r. ⌜ (r ≡ placeIn index) × (r < 64) ⌝ }
 {
     let k = place_of(index);
     if k < links::SLOTS {
-        t.slots[k] = x;
+        return k;
     }
-    t
+    0
+}
+
+// The slot of a link, from what stands at its place; a blank one for a fixed link and for an index that does not count. Whoever
+// holds the table reads the place, because a function that is given the table copies it to read there.
+pub fn slot_from(max: usize, index: LinkIndex, x: Slot) -> Slot
+    ensures { λ r. ⌜ r ≡ slotFrom max index x ⌝ }
+{
+    if slot_count(max) <= place_of(index) {
+        return links::blank_slot();
+    }
+    x
+}
+
+// The slot of a link, for those that do not hold the table.
+pub fn slot_at(t: Table, index: LinkIndex) -> Slot
+    ensures { λ r. ⌜ r ≡ slotAt (counted t) index ⌝ }
+{
+    let k = place_in(index);
+    let x = t.slots[k];
+    slot_from(t.max, index, x)
 }

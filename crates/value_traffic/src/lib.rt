@@ -47,11 +47,7 @@ pub fn indication(t: Table, h: IndicationHead, packet: &[u8], out: &mut [u8]) ->
 pub fn request(t: Table, h: RequestHead, packet: &[u8]) -> Sending
     ensures { λ r. ⌜ r ≡ send t (request h (now (packet .entry))) ⌝ }
 {
-    let bad = leaves::request_values_refusal(h);
-    if bad != replies::DONE {
-        return leaves::not_sent(bad);
-    }
-    leaves::send_on(value_slots::index::link_at(t, h.index), h, packet)
+    leaves::request_on(value_slots::index::link_at(t, h.index), h, packet)
 }
 
 pub fn interface_address(t: Table, index: LinkIndex) -> InterfaceAddress

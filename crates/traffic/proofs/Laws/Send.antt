@@ -1,7 +1,7 @@
 -- What a request answers, by the number that its rules give.
 use Prim.Native.Nat.{ℕ, zero, suc, _<_}
 use native.Mathlib.Omega.{arith}
-use mathlib.Core.Path.{_≡_, sym, _∙_, ap}
+use mathlib.Core.Path.{_≡_, refl, sym, _∙_, ap}
 use mathlib.Core.Logic.{_≢_}
 use mathlib.Core.Bool.{Bool, true, false, cond, not, _&&_}
 use mathlib.Core.List.{[], _++_}
@@ -17,7 +17,7 @@ use Rattle.links.specs.declared.Named.{Named}
 use Rattle.links.specs.declared.Table.{Table}
 use Rattle.links.specs.Index.{named}
 use Rattle.traffic.specs.declared.Destination.the-variants.{Mid, Nothing}
-use Rattle.traffic.specs.Leaves.{Request, neighbourOf, within, toNeighbour, isUnset, requestValues, resolveRules, linkRules, requestRules, down, notSent, sending, send, sendOn, interfaceRules}
+use Rattle.traffic.specs.Leaves.{Request, neighbourOf, within, toNeighbour, isUnset, requestValues, resolveRules, linkRules, requestRules, down, notSent, sending, send, sendNamed, sendOn, interfaceRules}
 
 pub values-numbered : (q : Request) → Numbered (requestValues q)
 unfolding requestValues
@@ -92,15 +92,18 @@ module _ (l : Named) (q : Request) where
     unfolding resolveRules
     one-sent m e = rw (one, e) (rw (one-down, e))
 
--- where its values are good, a request is sent on the link that its index names, whatever the layout of the table
-pub sent-refused : (t : Table) (q : Request) (n : ℕ) → n ≡ refusal (requestValues q) → n ≢ 0 → send t q ≡ notSent n
-unfolding send requestRules
-sent-refused t q n e h =
-    let l = named t (q .index) in
-    sending-refused l q (refusal (requestRules t q)) n (omega arith) (sym (by-first (requestValues q) (linkRules l q) n e h))
+-- its values are asked first, and then what the link decides
+module _ (l : Named) (q : Request) where
+  pub named-refused : (n : ℕ) → n ≡ refusal (requestValues q) → n ≢ 0 → sendNamed l q ≡ notSent n
+  unfolding sendNamed
+  named-refused n e h =
+      sending-refused l q (refusal (requestValues q ++ linkRules l q)) n (omega arith) (sym (by-first (requestValues q) (linkRules l q) n e h))
 
-pub sent-on : (t : Table) (q : Request) → refusal (requestValues q) ≡ 0 → send t q ≡ sendOn (named t (q .index)) q
-unfolding send requestRules sendOn
-sent-on t q e =
-    let l = named t (q .index) in
-    ap (λ (m : ℕ). sending m l q) (refusal-past (requestValues q) (linkRules l q) (values-numbered q) e)
+  pub named-on : refusal (requestValues q) ≡ 0 → sendNamed l q ≡ sendOn l q
+  unfolding sendNamed sendOn
+  named-on e = ap (λ (m : ℕ). sending m l q) (refusal-past (requestValues q) (linkRules l q) (values-numbered q) e)
+
+-- a request is sent on the link that its index names, whatever the layout of the table
+pub sent-named : (t : Table) (q : Request) → send t q ≡ sendNamed (named t (q .index)) q
+unfolding send requestRules sendNamed
+sent-named t q = refl

@@ -1,0 +1,2 @@
+-- The laws of what calls change.
+pub mod Changes

@@ -1,0 +1,102 @@
+// What an enable, a disable and a new own MID change: the reply without the table. Whoever holds the table carries the change out
+// where the table lies, and no table is copied for it.
+use links::LinkIndex;
+use links::PerhapsLink;
+use links::Settings;
+use links::Slot;
+use links::Table;
+use value_slots::Wanted;
+ghost use mathlib.Core.Path.{_≡_};
+ghost use Prim.Native.Nat.{_<_};
+ghost use Rattle.links.specs.Calls.{reply, enable, disable, setOwn};
+ghost use Rattle.value_table.specs.Changes.{carriedOut};
+
+// The number and the link of the reply, and what the table holds behind the call: its own MID, and one slot by its place. What does
+// not change is told as it was. The DGVL's area is not here: no covered form writes an enum into a table that stays where it is.
+pub struct Change {
+    pub number: u8,
+    pub link: PerhapsLink,
+    pub own: u64,
+    pub place: usize,
+    pub slot: Slot,
+}
+
+// Nothing changes: a refusal, by its number.
+pub fn unchanged(t: Table, number: u8) -> Change
+    ensures { λ r. ⌜ (carriedOut t r ≡ record { number = number; link = PerhapsLink.Nothing; table = t }) × (r .place < 64) ⌝ }
+{
+    let slot = t.slots[0];
+    Change {
+        number: number,
+        link: PerhapsLink::Nothing,
+        own: t.own,
+        place: 0,
+        slot: slot,
+    }
+}
+
+fn with_slot(t: Table, link: PerhapsLink, place: usize, slot: Slot) -> Change
+    ensures { λ r. ⌜ r ≡ record { number = 0; link = link; own = t .own; place = place; slot = slot } ⌝ }
+{
+    Change {
+        number: replies::DONE,
+        link: link,
+        own: t.own,
+        place: place,
+        slot: slot,
+    }
+}
+
+pub fn enable(t: Table, s: Settings) -> Change
+    ensures { λ r. ⌜ (carriedOut t r ≡ reply t (enable s)) × (r .place < 64) ⌝ }
+{
+    let bad = links::checks::settings_refusal(s);
+    if bad != replies::DONE {
+        return unchanged(t, bad);
+    }
+    if value_slots::has(t, Wanted::SameGround, s) {
+        return unchanged(t, replies::AREA_IN_USE);
+    }
+    if value_slots::has(t, Wanted::Overlapping, s) {
+        return unchanged(t, replies::PREFIX_OVERLAPS);
+    }
+    if !value_slots::has(t, Wanted::Unused, s) {
+        return unchanged(t, replies::NO_INDEX_FREE);
+    }
+    let index = value_slots::first_unused(t);
+    let slot = Slot {
+        enabled: true,
+        settings: s,
+    };
+    with_slot(t, PerhapsLink::Link(index), index.0 - LinkIndex::FIRST_STOP.0, slot)
+}
+
+pub fn disable(t: Table, index: LinkIndex) -> Change
+    ensures { λ r. ⌜ (carriedOut t r ≡ reply t (disable index)) × (r .place < 64) ⌝ }
+{
+    if index.0 < LinkIndex::FIRST_STOP.0 {
+        return unchanged(t, replies::FIXED_LINK);
+    }
+    let slot = value_slots::slot_at(t, index);
+    if !slot.enabled {
+        return unchanged(t, replies::NO_SUCH_LINK);
+    }
+    let gone = links::blank_slot();
+    with_slot(t, PerhapsLink::Nothing, index.0 - LinkIndex::FIRST_STOP.0, gone)
+}
+
+pub fn own_mid(t: Table, mid: u64) -> Change
+    ensures { λ r. ⌜ (carriedOut t r ≡ reply t (setOwn mid)) × (r .place < 64) ⌝ }
+{
+    if !links::checks::mid_ok(mid) {
+        return unchanged(t, replies::VALUE_OUT_OF_RANGE);
+    }
+    let slot = t.slots[0];
+    Change {
+        number: replies::DONE,
+        link: PerhapsLink::Nothing,
+        own: mid,
+        place: 0,
+        slot: slot,
+    }
+}
