@@ -24,9 +24,13 @@ pub fn good(x: Area) -> bool
         & ((x.shape == 0) | (1 <= x.b))
 }
 
+// Most areas differ in their latitude, and a search asks for many: it ends there.
 pub fn equal(x: Area, y: Area) -> bool
     ensures { λ r. ⌜ r ≡ sameArea x y ⌝ }
 {
+    if x.latitude != y.latitude {
+        return false;
+    }
     (x.shape == y.shape)
         & (x.latitude == y.latitude)
         & (x.longitude == y.longitude)

@@ -1,3 +1,3 @@
 -- The laws of slots.
-pub mod Whole
+pub mod Found
 pub mod Place

@@ -1,32 +1,34 @@
 -- What the search over slots looks for, by the question asked; and the slot of a link, by its index.
 use Prim.Native.Nat.{ℕ, _-_, min}
 use mathlib.Core.Bool.{Bool, cond, _||_}
-use mathlib.Core.List.{List}
 use lib.Dec.{eqb, leb, ltb}
-use lib.ListN.{getD}
+use Rattle.area.specs.Area.{sameArea}
+use Rattle.prefix.specs.Prefix.{overlap}
 use Rattle.links.specs.declared.Interface.{Interface}
 use Rattle.links.specs.declared.LinkIndex.{LinkIndex}
 use Rattle.links.specs.declared.Named.{Named}
 use Rattle.links.specs.declared.PerhapsArea.{PerhapsArea}
 use Rattle.links.specs.declared.PerhapsArea.the-variants.{Set, Unset}
-use Rattle.links.specs.declared.Settings.{Settings}
 use Rattle.links.specs.declared.Slot.{Slot}
 use Rattle.links.specs.declared.Table.{Table}
-use Rattle.links.specs.Settings.{sameGround, overlaps, reaches}
-use Rattle.links.specs.Slots.{tvlIndex, dgvlIndex, isFixed, placeOf, free, counted, unused, with}
+use Rattle.links.specs.Index.{chosen}
+use Rattle.links.specs.Slots.{tvlIndex, dgvlIndex, isFixed, indexAt, placeOf, free, counted, any, place, unused, with}
 use Rattle.value_slots.specs.declared.Found.{Found}
 use Rattle.value_slots.specs.declared.Wanted.{Wanted}
-use Rattle.value_slots.specs.declared.Wanted.the-variants.{Unused, SameGround, Overlapping, Reaching}
+use Rattle.value_slots.specs.declared.Wanted.the-variants.{Unused, SameGround, Overlapping}
 
-abbrev pub passes : Wanted → Settings → List ℕ → Slot → Bool
-passes Unused s address = unused
-passes SameGround s address = with (λ r. sameGround r s)
-passes Overlapping s address = with (λ r. overlaps r s)
-passes Reaching s address = with (λ r. reaches r address)
+abbrev pub passes : Wanted → Slot → Bool
+passes Unused = unused
+passes (SameGround a) = with (λ r. sameArea (r .area) a)
+passes (Overlapping p) = with (λ r. overlap (r .prefix) p)
 
--- a slot by its place, and the kind that it has
-abbrev pub found : Table → ℕ → Found
-found t k = record { place = k; kind = getD (counted t) k free .settings .interface .kind }
+-- whether a slot passes, the place of the first that does, and its link; the dynamic link where none does
+abbrev pub found : Table → (Slot → Bool) → Found
+found t q = record {
+  any = any q (counted t);
+  place = place q (counted t);
+  link = chosen t (cond (any q (counted t)) (indexAt (place q (counted t))) dgvlIndex);
+}
 
 -- where the slot of a link lies among the 64; a fixed link has none, so that its place is past the last
 abbrev pub slotPlace : LinkIndex → ℕ

@@ -18,7 +18,13 @@ pub fn is_enabled(t: Table, index: LinkIndex) -> bool
 }
 
 // The link itself: its interface and its area. The topological link has no area, the dynamic link perhaps one.
-pub fn link_from(tvl: Interface, dgvl: Interface, area: PerhapsArea, index: LinkIndex, slot: Slot) -> Named
+pub fn link_from(
+    tvl: Interface,
+    dgvl: Interface,
+    area: PerhapsArea,
+    index: LinkIndex,
+    slot: Slot,
+) -> Named
     ensures { λ r. ⌜ r ≡ namedFrom tvl dgvl area index slot ⌝ }
 {
     if index.0 == LinkIndex::TVL.0 {

@@ -1,39 +1,35 @@
-// The slots of a table by value: read one, replace one, and look for one. Every question about the enabled links, and the lowest
-// unused index, is asked of the one loop in `find`.
+// The slots of a table by value: read one, and look for one. Every question about the enabled links, and the lowest unused index, is
+// asked of the one loop in `find`.
 pub mod index;
 
+use area::Area;
 use links::Chosen;
 use links::LinkIndex;
-use links::Settings;
 use links::Slot;
 use links::Table;
+use prefix::Prefix;
 ghost use mathlib.Core.Path.{_≡_};
-ghost use mathlib.Core.List.{[]};
-ghost use mathlib.Core.Bool.{cond};
 ghost use Prim.Native.Nat.{_-_, _≤_, _<_, min};
-ghost use Rattle.links.specs.Slots.{dgvlIndex, indexAt, counted, slotAt, any, place, unused};
-ghost use Rattle.links.specs.Index.{chosen};
+ghost use Rattle.links.specs.Slots.{indexAt, counted, slotAt};
 ghost use Rattle.value_slots.specs.Search.{passes, found, slotPlace, placeIn, slotFrom};
 
-// Which slot is looked for.
+// Which slot is looked for, with what the question asks for. What holds an address is what overlaps the prefix of that address
+// alone.
 pub enum Wanted {
     Unused,
-    SameGround,
-    Overlapping,
-    Reaching,
+    SameGround(Area),
+    Overlapping(Prefix),
 }
 
-// Settings and address that no question needs are not looked at.
-fn is_wanted(x: Slot, wanted: Wanted, s: Settings, address: &[u8]) -> bool
-    ensures { λ r. ⌜ r ≡ passes wanted s (now (address .entry)) x ⌝ }
+fn is_wanted(x: Slot, wanted: Wanted) -> bool
+    ensures { λ r. ⌜ r ≡ passes wanted x ⌝ }
 {
     let r = x.settings;
     let on = x.enabled;
     match wanted {
         Wanted::Unused => !on,
-        Wanted::SameGround => on && area::equal(r.area, s.area),
-        Wanted::Overlapping => on && prefix::overlaps(r.prefix, s.prefix),
-        Wanted::Reaching => on && prefix::holds_address(r.prefix, address),
+        Wanted::SameGround(a) => on && area::equal(r.area, a),
+        Wanted::Overlapping(p) => on && prefix::overlaps(r.prefix, p),
     }
 }
 
@@ -69,72 +65,47 @@ fn index_of(place: usize) -> LinkIndex
     LinkIndex(place + LinkIndex::FIRST_STOP.0)
 }
 
-// The first slot that is wanted: its place, and its kind. Where there is none, the number of slots that count, and 0.
+// What the search finds: whether a slot is wanted, the place of the first, and its link. Where there is none, the number of slots that
+// count, and the dynamic link.
 pub struct Found {
+    pub any: bool,
     pub place: usize,
-    pub kind: u8,
+    pub link: Chosen,
 }
 
-// The one loop. The kind comes with the place because each function that reads a slot of its table copies the whole table.
-fn find(t: Table, wanted: Wanted, s: Settings, address: &[u8]) -> Found
-    ensures { λ r. ⌜ r ≡ found t (place (passes wanted s (now (address .entry))) (counted t)) ⌝ }
+// The one loop. All that is asked of the slot comes with it, because each function that reads a slot of its table copies the table.
+pub fn find(t: Table, wanted: Wanted) -> Found
+    ensures { λ r. ⌜ r ≡ found t (passes wanted) ⌝ }
 {
     let n = slot_count(t.max);
     let mut i: usize = 0;
     while i < n {
         let x = t.slots[i];
-        if is_wanted(x, wanted, s, address) {
+        if is_wanted(x, wanted) {
             let r = x.settings;
             let interface = r.interface;
-            return Found {
-                place: i,
+            let link = Chosen {
+                index: index_of(i),
                 kind: interface.kind,
+            };
+            return Found {
+                any: true,
+                place: i,
+                link: link,
             };
         }
         i += 1;
     }
-    Found { place: i, kind: 0 }
-}
-
-// The place of the first slot that is wanted; the number of slots that count where there is none.
-fn first_place(t: Table, wanted: Wanted, s: Settings, address: &[u8]) -> usize
-    ensures { λ r. ⌜ r ≡ place (passes wanted s (now (address .entry))) (counted t) ⌝ }
-{
-    let f = find(t, wanted, s, address);
-    f.place
-}
-
-// Is there a slot that is wanted? No address is asked for.
-pub fn has(t: Table, wanted: Wanted, s: Settings) -> bool
-    ensures { λ r. ⌜ r ≡ any (passes wanted s []) (counted t) ⌝ }
-{
-    first_place(t, wanted, s, b"") < slot_count(t.max)
-}
-
-// The link of the first slot that is wanted, or the dynamic link.
-pub fn link_or_dynamic(t: Table, wanted: Wanted, s: Settings, address: &[u8]) -> Chosen
-    ensures { λ r. ⌜ r ≡ chosen t (cond (any (passes wanted s (now (address .entry))) (counted t)) (indexAt (place (passes wanted s (now (address .entry))) (counted t))) dgvlIndex) ⌝ }
-{
-    let f = find(t, wanted, s, address);
     let dgvl = t.dgvl;
-    if f.place < slot_count(t.max) {
-        return Chosen {
-            index: index_of(f.place),
-            kind: f.kind,
-        };
-    }
-    Chosen {
+    let link = Chosen {
         index: LinkIndex::DGVL,
         kind: dgvl.kind,
+    };
+    Found {
+        any: false,
+        place: i,
+        link: link,
     }
-}
-
-// The lowest unused index; the one past those that count where all are in use.
-pub fn first_unused(t: Table) -> LinkIndex
-    ensures { λ r. ⌜ r ≡ indexAt (place unused (counted t)) ⌝ }
-{
-    let any = links::blank_slot();
-    index_of(first_place(t, Wanted::Unused, any.settings, b""))
 }
 
 // Where the slot of a link stands; the first place for a fixed link and past the last slot, which have none.

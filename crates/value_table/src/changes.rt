@@ -54,21 +54,27 @@ pub fn enable(t: Table, s: Settings) -> Change
     if bad != replies::DONE {
         return unchanged(t, bad);
     }
-    if value_slots::has(t, Wanted::SameGround, s) {
+    let area = s.area;
+    let same = value_slots::find(t, Wanted::SameGround(area));
+    if same.any {
         return unchanged(t, replies::AREA_IN_USE);
     }
-    if value_slots::has(t, Wanted::Overlapping, s) {
+    let prefix = s.prefix;
+    let overlapping = value_slots::find(t, Wanted::Overlapping(prefix));
+    if overlapping.any {
         return unchanged(t, replies::PREFIX_OVERLAPS);
     }
-    if !value_slots::has(t, Wanted::Unused, s) {
+    let unused = value_slots::find(t, Wanted::Unused);
+    if !unused.any {
         return unchanged(t, replies::NO_INDEX_FREE);
     }
-    let index = value_slots::first_unused(t);
+    let link = unused.link;
+    let index = link.index;
     let slot = Slot {
         enabled: true,
         settings: s,
     };
-    with_slot(t, PerhapsLink::Link(index), index.0 - LinkIndex::FIRST_STOP.0, slot)
+    with_slot(t, PerhapsLink::Link(index), unused.place, slot)
 }
 
 pub fn disable(t: Table, index: LinkIndex) -> Change
@@ -82,7 +88,12 @@ pub fn disable(t: Table, index: LinkIndex) -> Change
         return unchanged(t, replies::NO_SUCH_LINK);
     }
     let gone = links::blank_slot();
-    with_slot(t, PerhapsLink::Nothing, index.0 - LinkIndex::FIRST_STOP.0, gone)
+    with_slot(
+        t,
+        PerhapsLink::Nothing,
+        index.0 - LinkIndex::FIRST_STOP.0,
+        gone,
+    )
 }
 
 pub fn own_mid(t: Table, mid: u64) -> Change

@@ -6,8 +6,9 @@ use mathlib.Core.List.{List}
 use Rattle.area.specs.declared.Area.{Area}
 use Rattle.area.specs.Area.{sameArea}
 use Rattle.area.proofs.Laws.Same.{same-sym, same-trans, same-test}
-use Rattle.prefix.specs.Prefix.{holds}
-use Rattle.prefix.proofs.Laws.Overlap.{hold-overlap, overlap-sym}
+use Rattle.octets.proofs.Laws.Digits.{Below}
+use Rattle.prefix.specs.Prefix.{ofAddress, holds, overlap}
+use Rattle.prefix.proofs.Laws.Overlap.{hold-overlap, overlap-sym, holds-as-overlap}
 use Rattle.links.specs.declared.Settings.{Settings}
 use Rattle.links.specs.Settings.{sameGround, overlaps, reaches, Same}
 
@@ -35,3 +36,8 @@ reaches-one r s a e f = hold-overlap (r .prefix) (s .prefix) a e f
 pub reaches-alike : (r s : Settings) (a : List ℕ) → Same r s → reaches r a ≡ reaches s a
 unfolding reaches
 reaches-alike r s a same = ap (λ p. holds p a) (same .prefix)
+
+-- who reaches an address overlaps the prefix of that address alone
+pub reaches-as-overlap : (s : Settings) (a : List ℕ) → Below 256 a → reaches s a ≡ overlap (s .prefix) (ofAddress a)
+unfolding reaches
+reaches-as-overlap s a f = holds-as-overlap (s .prefix) a f

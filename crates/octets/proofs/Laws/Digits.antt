@@ -25,6 +25,20 @@ below-spread b l k zero some f i = some
 below-spread b l k (suc n) some f zero = f k
 below-spread b l k (suc n) some f (suc i) = below-spread b l (suc k) n some f i
 
+below-drop : (b : ℕ) (l : List ℕ) (k : ℕ) → 0 < b → Below b l → Below b (drop k l)
+below-drop b l zero some f = f
+below-drop b [] (suc k) some f = f
+below-drop b (x ∷ l) (suc k) some f = below-drop b l k some (λ i. f (suc i))
+
+below-take : (b : ℕ) (l : List ℕ) (n : ℕ) → 0 < b → Below b l → Below b (take n l)
+below-take b l zero some f i = some
+below-take b [] (suc n) some f i = some
+below-take b (x ∷ l) (suc n) some f zero = f 0
+below-take b (x ∷ l) (suc n) some f (suc i) = below-take b l n some (λ j. f (suc j)) i
+
+pub below-part : (b : ℕ) (l : List ℕ) (k n : ℕ) → 0 < b → Below b l → Below b (take n (drop k l))
+below-part b l k n some f = below-take b (drop k l) n some (below-drop b l k some f)
+
 module _ (b : ℕ) (some : 0 < b) where
   power : (w : ℕ) → 0 < b ^ w
   power w = one-le-pow w b some

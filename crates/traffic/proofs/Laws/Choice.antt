@@ -96,20 +96,12 @@ module _ (l : List Slot) (x : Indication) where
 pub index-no-area : (l : List Slot) (x : Indication) → (eqb (x .transport) 2 || eqb (x .transport) 3) ≡ true → ((b : Area) → isArea (x .destination) b ≡ false) → linkIndex (choose l x) ≡ dgvlIndex
 index-no-area l x e h = rw (choose-area l x e, never (λ s. isArea (x .destination) (s .area)) l (λ s. h (s .area)))
 
--- an index from the search is not the dynamic link's
-pub index-kept : (q : Settings → Bool) (l : List Slot) (other : LinkIndex) → (IndexOr q l dgvlIndex .0 ≡ 1 → ⊥) → IndexOr q l dgvlIndex ≡ IndexOr q l other
-index-kept q l other h = go (any (with q) l) h
-  where
-    go : (b : Bool) → (cond b (indexAt (place (with q) l)) dgvlIndex .0 ≡ 1 → ⊥) → cond b (indexAt (place (with q) l)) dgvlIndex ≡ cond b (indexAt (place (with q) l)) other
-    go true h = refl
-    go false h = absurd (h refl)
+-- the first that is found is kept, and where none is the next is asked
+pub index-kept : (q : Settings → Bool) (l : List Slot) (other : LinkIndex) → any (with q) l ≡ true → IndexOr q l dgvlIndex ≡ IndexOr q l other
+index-kept q l other e = rw e
 
-pub index-failing : (q : Settings → Bool) (l : List Slot) (other : LinkIndex) → IndexOr q l dgvlIndex .0 ≡ 1 → other ≡ IndexOr q l other
-index-failing q l other e = go (any (with q) l) e
-  where
-    go : (b : Bool) → cond b (indexAt (place (with q) l)) dgvlIndex .0 ≡ 1 → other ≡ cond b (indexAt (place (with q) l)) other
-    go true e = absurd (omega arith)
-    go false e = refl
+pub index-failing : (q : Settings → Bool) (l : List Slot) (other : LinkIndex) → any (with q) l ≡ false → other ≡ IndexOr q l other
+index-failing q l other e = rw e
 
 -- the kind of the chosen link is that of its index
 pub kind-by-index : (t : Table) (x : Indication) → kindOf t (choose (counted t) x) ≡ interfaceAt t (linkIndex (choose (counted t) x)) .kind

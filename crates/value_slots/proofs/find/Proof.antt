@@ -2,15 +2,15 @@
 use Prim.Native.Nat.{ℕ, _-_, _<_}
 use native.Mathlib.Omega.{arith}
 use mathlib.Core.Path.{_≡_, sym, _∙_, ap}
-use lib.ListN.{length, getD}
+use lib.ListN.{length}
 use borrow.Author.Needs.{needs}
 use Rattle.octets.proofs.Laws.Runs.{length-mapped}
 use Rattle.links.specs.declared.Slot.{Slot}
 use Rattle.links.specs.Slots.{free, counted, place}
-use Rattle.links.proofs.Laws.Counted.{counted-length, counted-at, any-default, beyond}
+use Rattle.links.proofs.Laws.Counted.{counted-length, counted-at, any-default}
 use Rattle.links.proofs.Laws.Search.{Looking, start, hit, pass, end}
 use Rattle.value_slots.specs.Search.{passes}
-use Rattle.value_slots.proofs.Laws.Whole.{found-is}
+use Rattle.value_slots.proofs.Laws.Found.{found-at, found-none}
 use Rattle.value_slots.proofs.find.Statement.{statement}
 use Rattle.value_slots.proofs.find.Tie as tie
 
@@ -18,10 +18,10 @@ abbrev kind-of : Slot → ℕ
 kind-of x = x .settings .interface .kind
 
 abbrev Inv-loop : tie.InvT-loop
-Inv-loop wanted s address t n i₀ i = Looking (passes wanted s address) (counted t) n i
+Inv-loop wanted t n i₀ i = Looking (passes wanted) (counted t) n i
 
 abbrev μ-loop : tie.MeasureT-loop
-μ-loop wanted s address t n i₀ i = n - i
+μ-loop wanted t n i₀ i = n - i
 
 all : (c : tie.Start Inv-loop μ-loop) → length (c .args .t1 .slots) ≡ 64
 all c = search (length-mapped, needs)
@@ -31,8 +31,8 @@ slot-count-requires c κs = search needs
 
 loop-holds : tie.Need-loop-holds Inv-loop μ-loop
 loop-holds c =
-    let args = c .before .before .args in
-    start (passes (args .wanted) (args .s) (args .address .now)) (counted (args .t1)) (c .slot-count .ensures ∙ sym (counted-length (args .t1) 64 (all (c .before .before))))
+    let args = c .before .args in
+    start (passes (args .wanted)) (counted (args .t1)) (c .slot-count .ensures ∙ sym (counted-length (args .t1) 64 (all (c .before))))
 
 mul-x : tie.Need-mul-x Inv-loop μ-loop
 mul-x c = omega arith
@@ -43,19 +43,20 @@ element-copy-out-x c = omega arith
 is-wanted-requires : tie.Need-is-wanted-requires Inv-loop μ-loop
 is-wanted-requires c κs = search needs
 
+index-of-requires : tie.Need-index-of-requires Inv-loop μ-loop
+index-of-requires c κs = omega (arith, c .before .before .before .before .before .before .before .slot-count .ensures)
+
 returns : tie.Need-returns Inv-loop μ-loop
 returns c =
     let args = c .before .before .before .before .before .before .before .before .before .args in
-    let l = c .before .before .before .before .before .before .loop in
-    let q = passes (args .wanted) (args .s) (args .address .now) in
-    let whole = all (c .before .before .before .before .before .before .before .before .before) in
-    let within : l .i < length (counted (args .t1)) = omega arith in
+    let l = c .before .before .before .before .before .before .before .loop in
+    let q = passes (args .wanted) in
+    let within : l .i < length (counted (args .t1)) = omega (arith, l .inv .count, c .before .before .before .before .before .before .loop-test .taken) in
     let here : l .i ≡ place q (counted (args .t1)) =
-    hit q (counted (args .t1)) (l .inv) _ (omega arith)
-    (ap q (counted-at (args .t1) (l .i) _ within) ∙ sym (c .before .before .before .is-wanted .ensures) ∙ c .before .before .if1 .taken) in
-    found-is (args .t1) _ _ here
-    (ap kind-of (any-default (args .t1 .slots) (l .i) _ free (omega (arith, whole)) ∙ sym (counted-at (args .t1) (l .i) free within))
-    ∙ ap (λ (k : ℕ). kind-of (getD (counted (args .t1)) k free)) here)
+    hit q (counted (args .t1)) (l .inv) _ (c .before .before .before .before .before .before .loop-test .taken)
+    (ap q (counted-at (args .t1) (l .i) _ within) ∙ sym (c .before .before .before .before .is-wanted .ensures) ∙ c .before .before .before .if1 .taken) in
+    found-at (args .t1) q (l .i) _ here within (c .index-of .ensures)
+    (ap kind-of (any-default (args .t1 .slots) (l .i) _ free (omega (arith, all (c .before .before .before .before .before .before .before .before .before), c .before .before .before .before .before .before .before .before .slot-count .ensures)) ∙ sym (counted-at (args .t1) (l .i) free within)))
 
 add-i : tie.Need-add-i Inv-loop μ-loop
 add-i c = omega arith
@@ -65,19 +66,18 @@ loop-less c = omega arith
 
 loop-again : tie.Need-loop-again Inv-loop μ-loop
 loop-again c =
-    let args = c .before .before .before .before .before .before .before .args in
+    let args = c .before .before .before .before .before .before .args in
     let l = c .before .before .before .before .loop in
-    let q = passes (args .wanted) (args .s) (args .address .now) in
+    let q = passes (args .wanted) in
     pass q (counted (args .t1)) (l .inv) _ (omega arith)
     (ap q (counted-at (args .t1) (l .i) _ (omega arith)) ∙ sym (c .before .is-wanted .ensures) ∙ c .if1 .left)
 
 returns-2 : tie.Need-returns-2 Inv-loop μ-loop
 returns-2 c =
     let args = c .before .before .before .before .args in
-    let l = counted (args .t1) in
-    let q = passes (args .wanted) (args .s) (args .address .now) in
-    let past : c .before .loop .i ≡ place q l = end q l (c .before .loop .inv) free (omega arith) in
-    found-is (args .t1) _ _ past (sym (ap kind-of (beyond l (place q l) (omega (arith, past)))))
+    let l = c .before .before .loop in
+    let past = end (passes (args .wanted)) (counted (args .t1)) (l .inv) free (c .before .loop-test .left) in
+    found-none (args .t1) (passes (args .wanted)) (l .i) past (omega (arith, l .inv .count, c .before .loop-test .left))
 
 pub find-spec : {M : Type 1} → statement M
 find-spec =
@@ -90,6 +90,7 @@ find-spec =
     mul-x
     element-copy-out-x
     is-wanted-requires
+    index-of-requires
     returns
     add-i
     loop-less

@@ -1,17 +1,18 @@
 -- `value_table::changes::enable` meets its contract.
 use Prim.Native.Nat.{_<_}
 use native.Mathlib.Omega.{arith}
-use mathlib.Core.Path.{_≡_, sym, _∙_}
+use mathlib.Core.Path.{_≡_, sym, _∙_, ap}
 use lib.Dec.{lit<}
 use lib.ListN.{length}
-use borrow.Author.Tests.{not-false}
 use borrow.Author.Needs.{needs}
+use borrow.Author.Tests.{not-true, not-false}
 use Rattle.octets.proofs.Laws.Runs.{length-mapped}
 use Rattle.replies.specs.Rules.{refusal}
-use Rattle.links.specs.Slots.{inUse, counted, place, unused}
+use Rattle.links.specs.Settings.{sameGround, overlaps}
+use Rattle.links.specs.Slots.{indexAt, counted, any, place, unused, with}
 use Rattle.links.specs.Calls.{enable, rules, slotRules, tableAfter, linkAfter}
 use Rattle.links.proofs.Laws.Replies.{refused, done, by-settings, by-slots}
-use Rattle.links.proofs.Laws.Counted.{place-of-index}
+use Rattle.value_slots.specs.declared.Found.{Found}
 use Rattle.value_table.proofs.Laws.Changes.{unused-fits}
 use Rattle.value_table.proofs.changes.enable.Statement.{statement}
 use Rattle.value_table.proofs.changes.enable.Tie as tie
@@ -23,94 +24,80 @@ all c = search (length-mapped, needs)
 passed : (c : tie.Else1) → refusal (rules (counted (c .before .before .args .t)) (enable (c .before .before .args .s))) ≡ refusal (slotRules (counted (c .before .before .args .t)) (c .before .before .args .s))
 passed c = by-slots (counted (c .before .before .args .t)) (c .before .before .args .s) (sym (c .before .settings-refusal .ensures) ∙ c .if1 .left)
 
-settings-refusal-requires : tie.Need-settings-refusal-requires
-settings-refusal-requires c κs = search needs
+-- what each search is told
+ground : (c : tie.After-find) → any (with (λ r. sameGround r (c .before .before .before .before .args .s))) (counted (c .before .before .before .before .args .t)) ≡ c .find .result .any
+unfolding sameGround
+ground c = sym (ap (λ (f : Found). f .any) (c .find .ensures))
 
-unchanged-requires : tie.Need-unchanged-requires
-unchanged-requires c κs = search needs
+prefixes : (c : tie.After-find2) → any (with (λ r. overlaps r (c .before .before .before .before .before .before .before .args .s))) (counted (c .before .before .before .before .before .before .before .args .t)) ≡ c .find2 .result .any
+unfolding overlaps
+prefixes c = sym (ap (λ (f : Found). f .any) (c .find2 .ensures))
+
+free-one : (c : tie.After-find3) → any unused (counted (c .before .before .before .before .before .before .before .before .before .args .t)) ≡ c .find3 .result .any
+free-one c = sym (ap (λ (f : Found). f .any) (c .find3 .ensures))
 
 returns : tie.Need-returns
 returns c =
     let args = c .before .before .before .args in
     let bad = c .before .before .settings-refusal in
-    let some : 0 < bad .result = omega (arith, c .before .if1 .taken) in
-    (c .unchanged .ensures .0 ∙ sym (refused (args .t) (enable (args .s)) (bad .result) some (by-settings (counted (args .t)) (args .s) (bad .result) some (sym (bad .ensures)))), c .unchanged .ensures .1)
-
-has-requires : tie.Need-has-requires
-has-requires c κs = search needs
-
-unchanged-requires-2 : tie.Need-unchanged-requires-2
-unchanged-requires-2 c κs = search needs
+    let some : 0 < bad .result = omega (arith, c .before .if1 .taken) in (
+      c .unchanged .ensures .0 ∙ sym (refused (args .t) (enable (args .s)) (bad .result) some (by-settings (counted (args .t)) (args .s) (bad .result) some (sym (bad .ensures)))),
+      c .unchanged .ensures .1,
+    )
 
 returns-2 : tie.Need-returns-2
 unfolding slotRules
 returns-2 c =
-    let args = c .before .before .before .before .before .args in
-    (c .unchanged2 .ensures .0 ∙ sym (refused (args .t) (enable (args .s)) 4 (lit< tt) (passed (c .before .before .before) ∙ rw (← c .before .before .has .ensures, c .before .if2 .taken))), c .unchanged2 .ensures .1)
-
-has-requires-2 : tie.Need-has-requires-2
-has-requires-2 c κs = search needs
-
-unchanged-requires-3 : tie.Need-unchanged-requires-3
-unchanged-requires-3 c κs = search needs
+    let args = c .before .before .before .before .before .before .args in (
+      c .unchanged2 .ensures .0 ∙ sym (refused (args .t) (enable (args .s)) 4 (lit< tt) (passed (c .before .before .before .before) ∙ rw (ground (c .before .before), c .before .if2 .taken))),
+      c .unchanged2 .ensures .1,
+    )
 
 returns-3 : tie.Need-returns-3
 unfolding slotRules
 returns-3 c =
-    let args = c .before .before .before .before .before .before .before .args in
-    (c .unchanged3 .ensures .0 ∙ sym (refused (args .t) (enable (args .s)) 5 (lit< tt)
-    (passed (c .before .before .before .before .before) ∙ rw (← c .before .before .before .before .has .ensures, c .before .before .before .if2 .left, ← c .before .before .has2 .ensures, c .before .if3 .taken))), c .unchanged3 .ensures .1)
-
-has-requires-3 : tie.Need-has-requires-3
-has-requires-3 c κs = search needs
-
-unchanged-requires-4 : tie.Need-unchanged-requires-4
-unchanged-requires-4 c κs = search needs
+    let args = c .before .before .before .before .before .before .before .before .before .args in (
+      c .unchanged3 .ensures .0 ∙ sym (refused (args .t) (enable (args .s)) 5 (lit< tt) (passed (c .before .before .before .before .before .before .before) ∙ rw (ground (c .before .before .before .before .before), c .before .before .before .before .if2 .left, prefixes (c .before .before), c .before .if3 .taken))),
+      c .unchanged3 .ensures .1,
+    )
 
 returns-4 : tie.Need-returns-4
 unfolding slotRules
 returns-4 c =
-    let args = c .before .before .before .before .before .before .before .before .before .args in
-    (c .unchanged4 .ensures .0 ∙ sym (refused (args .t) (enable (args .s)) 6 (lit< tt)
-    (passed (c .before .before .before .before .before .before .before) ∙ rw (← c .before .before .before .before .before .before .has .ensures, c .before .before .before .before .before .if2 .left, ← c .before .before .before .before .has2 .ensures, c .before .before .before .if3 .left, ← c .before .before .has3 .ensures, c .before .if4 .taken))), c .unchanged4 .ensures .1)
-
-first-unused-requires : tie.Need-first-unused-requires
-first-unused-requires c κs = search needs
-
-sub-with-slot : tie.Need-sub-with-slot
-sub-with-slot c = rw (c .before .before .first-unused .ensures) (omega arith)
-
-with-slot-requires : tie.Need-with-slot-requires
-with-slot-requires c κs = search needs
+    let args = c .before .before .before .before .before .before .before .before .before .before .before .before .args in (
+      c .unchanged4 .ensures .0 ∙ sym (refused (args .t) (enable (args .s)) 6 (lit< tt) (passed (c .before .before .before .before .before .before .before .before .before .before) ∙ rw (ground (c .before .before .before .before .before .before .before .before), c .before .before .before .before .before .before .before .if2 .left, prefixes (c .before .before .before .before .before), c .before .before .before .before .if3 .left, free-one (c .before .before .before), not-true (c .before .before .before .find3 .result .any) (c .before .if4 .taken)))),
+      c .unchanged4 .ensures .1,
+    )
 
 returns-5 : tie.Need-returns-5
 unfolding slotRules tableAfter linkAfter
 returns-5 c =
-    let args = c .before .before .before .before .before .before .before .before .before .before .before .before .args in
-    let free-one = not-false _ (c .before .before .before .before .if4 .left) in
-    let fits = unused-fits (args .t) (all (c .before .before .before .before .before .before .before .before .before .before .before .before)) (sym (c .before .before .before .before .before .has3 .ensures) ∙ free-one) in
-    rw (c .with-slot .ensures, c .before .before .before .first-unused .ensures, place-of-index (place unused (counted (args .t)))) (
-      sym (done (args .t) (enable (args .s)) (passed (c .before .before .before .before .before .before .before .before .before .before) ∙ rw (← c .before .before .before .before .before .before .before .before .before .has .ensures, c .before .before .before .before .before .before .before .before .if2 .left, ← c .before .before .before .before .before .before .before .has2 .ensures, c .before .before .before .before .before .before .if3 .left, ← c .before .before .before .before .before .has3 .ensures, c .before .before .before .before .if4 .left))),
-      fits,
+    let args = c .before .before .before .before .before .before .before .before .before .before .before .before .before .before .args in
+    let f = c .before .before .before .before .before .find3 in
+    let one = free-one (c .before .before .before .before .before) ∙ not-false _ (c .before .before .before .if4 .left) in
+    let k = place unused (counted (args .t)) in
+    let index : f .result .link .index ≡ indexAt k = ap (λ (x : Found). x .link .index) (f .ensures) ∙ rw one in
+    let at : f .result .place ≡ k = ap (λ (x : Found). x .place) (f .ensures) in
+    rw (c .with-slot .ensures, index, at) (
+      sym (done (args .t) (enable (args .s)) (passed (c .before .before .before .before .before .before .before .before .before .before .before .before) ∙ rw (ground (c .before .before .before .before .before .before .before .before .before .before), c .before .before .before .before .before .before .before .before .before .if2 .left, prefixes (c .before .before .before .before .before .before .before), c .before .before .before .before .before .before .if3 .left, one))),
+      unused-fits (args .t) (all (c .before .before .before .before .before .before .before .before .before .before .before .before .before .before)) one,
     )
 
 pub enable-spec : {M : Type 1} → statement M
 enable-spec =
     tie.close
     (tie.spec
-    settings-refusal-requires
-    unchanged-requires
+    (λ c κs. tt)
+    (λ c κs. tt)
     returns
-    has-requires
-    unchanged-requires-2
+    (λ c κs. tt)
+    (λ c κs. tt)
     returns-2
-    has-requires-2
-    unchanged-requires-3
+    (λ c κs. tt)
+    (λ c κs. tt)
     returns-3
-    has-requires-3
-    unchanged-requires-4
+    (λ c κs. tt)
+    (λ c κs. tt)
     returns-4
-    first-unused-requires
-    sub-with-slot
-    with-slot-requires
+    (λ c κs. tt)
     returns-5)

@@ -35,7 +35,7 @@ unfolding rules tableAfter linkAfter
 returns-2 c =
     let args = c .before .before .before .args in (
       rw (first-kept (args .t1 .slots) _ (all (c .before .before .before)))
-      (sym (done (args .t1) (setOwn (args .mid)) (rw (← c .before .before .mid-ok .ensures, c .before .if1 .left)))),
+          (sym (done (args .t1) (setOwn (args .mid)) (rw (← c .before .before .mid-ok .ensures, c .before .if1 .left)))),
       lit< tt,
     )
 

@@ -2,18 +2,25 @@
 use Prim.Native.Nat.{ℕ}
 use mathlib.Core.Path.{_≡_, sym, _∙_, ap}
 use mathlib.Core.Bool.{false, _||_}
-use mathlib.Core.List.{List}
-use lib.Dec.{eqb}
+use lib.Dec.{eqb, lit<}
+use lib.ListN.{take, drop}
 use borrow.Author.Tests.{eq-eqb, ne-eqb, not-true, not-false}
 use borrow.Author.Needs.{needs}
-use Rattle.area.specs.declared.Area.{Area}
+use Rattle.octets.proofs.Laws.Digits.{Below, below-part}
+use Rattle.prefix.specs.declared.Prefix.{Prefix}
+use Rattle.prefix.specs.Prefix.{ofAddress}
 use Rattle.ipv6.specs.Packet.{source, destination}
-use Rattle.links.specs.declared.LinkIndex.{LinkIndex}
-use Rattle.links.specs.Settings.{sameGround, reaches}
+use Rattle.area.specs.declared.Area.{Area}
+use Rattle.links.specs.Settings.{reaches}
 use Rattle.links.specs.Slots.{dgvlIndex, counted}
+use Rattle.links.specs.Index.{chosen}
+use Rattle.links.proofs.Laws.Kinds.{topological-kind, dynamic-kind, chosen-is}
 use Rattle.traffic.specs.Arrives.{indication, isArea, linkIndex, chosenFor}
 use Rattle.traffic.proofs.Laws.Choice.{IndexOr, choose-topological, choose-other, index-unicast, index-area, index-no-area, index-kept, index-failing, chosen-by-index}
-use Rattle.links.proofs.Laws.Kinds.{topological-kind, dynamic-kind, chosen-is, chosen-index, chosen-kind}
+use Rattle.value_slots.specs.declared.Found.{Found}
+use Rattle.value_slots.specs.declared.Wanted.the-variants.{Overlapping}
+use Rattle.value_slots.specs.Search.{passes, found}
+use Rattle.value_traffic.proofs.Laws.Reached.{reached-any, reached-link}
 use Rattle.value_traffic.proofs.choice.chosen_for.Statement.{statement}
 use Rattle.value_traffic.proofs.choice.chosen_for.Tie as tie
 
@@ -25,57 +32,43 @@ returns c =
     chosen-is (args .t) _ _ (sym (ap linkIndex (choose-topological l x (eq-eqb _ 4 (c .if1 .taken))))) (topological-kind (args .t))
     ∙ chosen-by-index (args .t) x
 
-blank-slot-requires : tie.Need-blank-slot-requires
-blank-slot-requires c κs = search needs
+-- an address of the packet is bytes
+address : (c : tie.After-shared-slice-known) (k : ℕ) → Below 256 (take 16 (drop k (c .before .args .packet .now)))
+address c k = below-part 256 (c .before .args .packet .now) k 16 (lit< tt) (λ i. c .shared-slice-known .given i .fits)
 
-destination-of-requires : tie.Need-destination-of-requires
-destination-of-requires c κs = search needs
-
-link-or-dynamic-requires : tie.Need-link-or-dynamic-requires
-link-or-dynamic-requires c κs = search needs
+-- what was found for the destination
+found-to : (c : tie.After-find) → c .find .result ≡ found (c .before .before .before .before .before .before .before .before .args .t) (passes (Overlapping (ofAddress (destination (c .before .before .before .before .before .before .before .before .args .packet .now)))))
+found-to c =
+    c .find .ensures ∙ ap (λ (p : Prefix). found (c .before .before .before .before .before .before .before .before .args .t) (passes (Overlapping p))) (c .before .of-address .ensures ∙ ap ofAddress (c .before .before .destination-of .ensures))
 
 returns-2 : tie.Need-returns-2
 returns-2 c =
-    let args = c .before .before .before .before .before .before .before .before .before .before .before .before .before .before .args in
+    let args = c .before .before .before .before .before .before .before .before .before .before .args in
     let l = counted (args .t) in
     let x = indication (args .h) (args .packet .now) in
-    let r = c .before .before .before .before .link-or-dynamic in
-    let found = chosen-index (args .t) (r .result) _ (r .ensures) ∙ ap (λ (a : List ℕ). IndexOr (λ s. reaches s a) l dgvlIndex) (c .before .before .before .before .before .before .destination-of .ensures) in
-    chosen-is (args .t) _ _
-    (found
-    ∙ index-kept (λ s. reaches s (destination (x .packet))) l (IndexOr (λ s. reaches s (source (x .packet))) l dgvlIndex) (λ e. c .if3 .taken (ap (λ (i : LinkIndex). i .0) found ∙ e))
-    ∙ sym (index-unicast l x (c .before .before .before .before .before .before .before .before .before .if2 .taken)))
-    (chosen-kind (args .t) (r .result) _ (r .ensures))
+    let bytes = address (c .before .before .before .before .before .before .before .before .before) 24 in
+    let is = found-to (c .before .before) in
+    let held = sym (reached-any (args .t) (destination (x .packet)) bytes _ is) ∙ c .before .if3 .taken in
+    c .link-in .ensures
+    ∙ reached-link (args .t) (destination (x .packet)) bytes _ is
+    ∙ ap (chosen (args .t)) (index-kept (λ s. reaches s (destination (x .packet))) l (IndexOr (λ s. reaches s (source (x .packet))) l dgvlIndex) held ∙ sym (index-unicast l x (c .before .before .before .before .before .if2 .taken)))
     ∙ chosen-by-index (args .t) x
-
-source-of-requires : tie.Need-source-of-requires
-source-of-requires c κs = search needs
-
-link-or-dynamic-requires-2 : tie.Need-link-or-dynamic-requires-2
-link-or-dynamic-requires-2 c κs = search needs
 
 returns-3 : tie.Need-returns-3
 returns-3 c =
-    let args = c .before .before .before .before .before .before .before .before .before .before .before .before .before .before .before .args in
+    let args = c .before .before .before .before .before .before .before .before .before .before .before .before .before .args in
     let l = counted (args .t) in
     let x = indication (args .h) (args .packet .now) in
-    let r = c .before .before .before .before .before .link-or-dynamic in
-    let found = chosen-index (args .t) (r .result) _ (r .ensures) ∙ ap (λ (a : List ℕ). IndexOr (λ s. reaches s a) l dgvlIndex) (c .before .before .before .before .before .before .before .destination-of .ensures) in
-    let q = c .link-or-dynamic2 in
-    chosen-is (args .t) _ _
-    (chosen-index (args .t) (q .result) _ (q .ensures)
-    ∙ ap (λ (a : List ℕ). IndexOr (λ s. reaches s a) l dgvlIndex) (c .before .before .before .before .before .before .source-of .ensures)
-    ∙ index-failing (λ s. reaches s (destination (x .packet))) l (IndexOr (λ s. reaches s (source (x .packet))) l dgvlIndex) (sym (ap (λ (i : LinkIndex). i .0) found) ∙ c .before .if3 .left)
-    ∙ sym (index-unicast l x (c .before .before .before .before .before .before .before .before .before .before .if2 .taken)))
-    (chosen-kind (args .t) (q .result) _ (q .ensures))
+    let not-held = sym (reached-any (args .t) (destination (x .packet)) (address (c .before .before .before .before .before .before .before .before .before .before .before .before) 24) _ (found-to (c .before .before .before .before .before))) ∙ c .before .before .before .before .if3 .left in
+    let is = c .before .find2 .ensures ∙ ap (λ (p : Prefix). found (args .t) (passes (Overlapping p))) (c .before .before .of-address2 .ensures ∙ ap ofAddress (c .before .before .before .source-of .ensures)) in
+    c .link-in2 .ensures
+    ∙ reached-link (args .t) (source (x .packet)) (address (c .before .before .before .before .before .before .before .before .before .before .before .before) 8) _ is
+    ∙ ap (chosen (args .t)) (index-failing (λ s. reaches s (destination (x .packet))) l (IndexOr (λ s. reaches s (source (x .packet))) l dgvlIndex) not-held ∙ sym (index-unicast l x (c .before .before .before .before .before .before .before .before .if2 .taken)))
     ∙ chosen-by-index (args .t) x
 
 -- whether line 2 is asked
 by-area : (c : tie.After-goes-by-area) → let transport = c .before .before .before .before .before .before .args .h .transport in (eqb transport 2 || eqb transport 3) ≡ c .goes-by-area .result
 by-area c = sym (c .goes-by-area .ensures)
-
-goes-by-area-requires : tie.Need-goes-by-area-requires
-goes-by-area-requires c κs = search needs
 
 returns-4 : tie.Need-returns-4
 returns-4 c =
@@ -85,35 +78,15 @@ returns-4 c =
     chosen-is (args .t) _ _ (sym (ap linkIndex (choose-other l x (ne-eqb _ 4 (c .before .before .before .if1 .left)) (ne-eqb _ 1 (c .before .before .if2 .left)) (by-area (c .before) ∙ not-true _ (c .if4 .taken))))) (dynamic-kind (args .t))
     ∙ chosen-by-index (args .t) x
 
-enum-known-d : tie.Need-enum-known-d
-enum-known-d c = search needs
-
-of-area-requires : tie.Need-of-area-requires
-of-area-requires c κs = search needs
-
-slice-aggregate-link-or-dynamic : tie.Need-slice-aggregate-link-or-dynamic
-slice-aggregate-link-or-dynamic c = search needs
-
-link-or-dynamic-requires-3 : tie.Need-link-or-dynamic-requires-3
-link-or-dynamic-requires-3 c κs = search needs
-
-enum-told : tie.Need-enum-told
-enum-told c = search needs
-
-enum-told-2 : tie.Need-enum-told-2
-enum-told-2 c = search needs
-
 returns-5 : tie.Need-returns-5
-unfolding sameGround
 returns-5 c =
-    let args = c .before .before .before .before .before .before .before .before .before .before .before .before .before .args in
+    let args = c .before .before .before .before .before .before .before .before .before .before .before .before .args in
     let l = counted (args .t) in
     let x = indication (args .h) (args .packet .now) in
-    let r = c .link-or-dynamic3 in
-    chosen-is (args .t) _ _
-    (chosen-index (args .t) (r .result) _ (r .ensures)
-    ∙ rw (c .before .before .of-area .ensures) (sym (index-area l x (by-area (c .before .before .before .before .before .before .before) ∙ not-false _ (c .before .before .before .before .before .before .if4 .left)) ∙ rw (c .before .before .before .before .d .given .1))))
-    (chosen-kind (args .t) (r .result) _ (r .ensures))
+    let asked = by-area (c .before .before .before .before .before .before) ∙ not-false _ (c .before .before .before .before .before .if4 .left) in
+    c .link-in3 .ensures
+    ∙ ap (λ (f : Found). f .link) (c .before .find3 .ensures)
+    ∙ ap (chosen (args .t)) (sym (index-area l x asked ∙ rw (c .before .before .before .d .given .1)))
     ∙ chosen-by-index (args .t) x
 
 -- a destination that is no area is that of no stop link
@@ -137,21 +110,23 @@ chosen-for-spec =
     tie.close
     (tie.spec
     returns
-    blank-slot-requires
-    destination-of-requires
-    source-of-requires
-    link-or-dynamic-requires
+    (λ c κs. tt)
+    (λ c κs. tt)
+    (λ c κs. tt)
+    (λ c κs. tt)
     returns-2
-    link-or-dynamic-requires-2
+    (λ c κs. tt)
+    (λ c κs. tt)
+    (λ c κs. tt)
+    (λ c κs. tt)
     returns-3
-    goes-by-area-requires
+    (λ c κs. tt)
     returns-4
-    enum-known-d
-    of-area-requires
-    slice-aggregate-link-or-dynamic
-    link-or-dynamic-requires-3
-    enum-told
-    enum-told-2
+    (λ c. search needs)
+    (λ c κs. tt)
+    (λ c κs. tt)
+    (λ c. search needs)
+    (λ c. search needs)
     returns-5
     returns-6
     returns-7)
