@@ -4,7 +4,6 @@ use native.Mathlib.Nat.{add-comm}
 use mathlib.Core.List.{[], _∷_, _++_}
 use mathlib.Core.Path.{_≡_, refl, sym, _∙_, ap}
 use lib.ListN.{length, drop}
-use lib.Seq.{take-length}
 use borrow.Author.Tests.{lt-ltb, le-ltb}
 use borrow.Author.Needs.{needs}
 use Rattle.octets.specs.Digits.{digits, mac}
@@ -65,17 +64,17 @@ part-copy-end-2 c = search needs
 copy-requires-3 : tie.Need-copy-requires-3
 copy-requires-3 c κs = search needs
 
-sub-copy-3 : tie.Need-sub-copy-3
-sub-copy-3 c = search needs
+sub-put-packet : tie.Need-sub-put-packet
+sub-put-packet c = search needs
 
-part-copy-start-3 : tie.Need-part-copy-start-3
-part-copy-start-3 c = search needs
+part-put-packet-start : tie.Need-part-put-packet-start
+part-put-packet-start c = search needs
 
-part-copy-end-3 : tie.Need-part-copy-end-3
-part-copy-end-3 c = search needs
+part-put-packet-end : tie.Need-part-put-packet-end
+part-put-packet-end c = search needs
 
-copy-requires-4 : tie.Need-copy-requires-4
-copy-requires-4 c κs = search needs
+put-packet-requires : tie.Need-put-packet-requires
+put-packet-requires c κs = search needs
 
 add-result : tie.Need-add-result
 add-result c = search needs
@@ -93,10 +92,10 @@ returns-2 c =
     let one = rw (c .before .before .before .before .before .before .before .before .before .before .before .before .before .before .before .before .before .before .before .before .mac-of .ensures) at (c .before .before .before .before .before .before .before .before .before .before .before .before .before .before .before .before .copy .ensures .1) in
     let two = grow (mac (args .to)) (mac (args .from)) out _ _ 6 6 refl one (rw (c .before .before .before .before .before .before .before .before .before .before .before .before .before .before .before .before .before .before .before .mac-of2 .ensures) at (c .before .before .before .before .before .before .before .before .before .before .before .copy2 .ensures .1)) in
     let three = grow (mac (args .to) ++ mac (args .from)) (0x86 ∷ 0xdd ∷ []) out _ _ 12 2 refl two (c .before .before .before .before .before .before .copy3 .ensures .1) in
-    let four = grow ((mac (args .to) ++ mac (args .from)) ++ 0x86 ∷ 0xdd ∷ []) p out _ _ 14 (length p) refl three (rw (take-length p) at (c .before .before .copy4 .ensures .1)) in
+    let four = grow ((mac (args .to) ++ mac (args .from)) ++ 0x86 ∷ 0xdd ∷ []) p out _ _ 14 (length p) refl three (c .before .before .put-packet .ensures .1) in
     let long : length (frame (args .to) (args .from) p) ≡ 14 + length p = frame-length (args .to) (args .from) p ∙ add-comm (length p) 14 in
     rw (le-ltb _ _ room) (
-      rw (c .before .before .copy4 .ensures .0) (sym (frame-length (args .to) (args .from) p)),
+      rw (c .before .before .put-packet .ensures .0) (sym (frame-length (args .to) (args .from) p)),
       four ∙ ap (λ (n : ℕ). frame (args .to) (args .from) p ++ drop n out) (sym long),
     )
 
@@ -120,10 +119,10 @@ write-frame-spec =
     part-copy-start-2
     part-copy-end-2
     copy-requires-3
-    sub-copy-3
-    part-copy-start-3
-    part-copy-end-3
-    copy-requires-4
+    sub-put-packet
+    part-put-packet-start
+    part-put-packet-end
+    put-packet-requires
     add-result
     same-length
     returns-2)
