@@ -127,9 +127,9 @@ pub fn send_on(link: Named, h: RequestHead, packet: &[u8]) -> Sending
 pub fn request_on(link: Named, h: RequestHead, packet: &[u8]) -> Sending
     ensures { λ r. ⌜ r ≡ sendNamed link (request h (now (packet .entry))) ⌝ }
 {
-    let bad = request_values_refusal(h);
-    if bad != replies::DONE {
-        return not_sent(bad);
+    let number = request_values_refusal(h);
+    if number != replies::DONE {
+        return not_sent(number);
     }
     send_on(link, h, packet)
 }

@@ -44,11 +44,11 @@ pub fn chosen_for(t: Table, h: IndicationHead, packet: &[u8]) -> Chosen
     }
     if transport == traffic::GEO_UNICAST {
         let to = prefix::of_address(ipv6::destination_of(packet));
+        let from = prefix::of_address(ipv6::source_of(packet));
         let reached = value_slots::find(t, Wanted::Overlapping(to));
         if reached.any {
             return link_in(reached);
         }
-        let from = prefix::of_address(ipv6::source_of(packet));
         return link_in(value_slots::find(t, Wanted::Overlapping(from)));
     }
     if !goes_by_area(transport) {

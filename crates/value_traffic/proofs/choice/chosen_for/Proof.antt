@@ -37,21 +37,21 @@ address : (c : tie.After-shared-slice-known) (k : ℕ) → Below 256 (take 16 (d
 address c k = below-part 256 (c .before .args .packet .now) k 16 (lit< tt) (λ i. c .shared-slice-known .given i .fits)
 
 -- what was found for the destination
-found-to : (c : tie.After-find) → c .find .result ≡ found (c .before .before .before .before .before .before .before .before .args .t) (passes (Overlapping (ofAddress (destination (c .before .before .before .before .before .before .before .before .args .packet .now)))))
+found-to : (c : tie.After-find) → c .find .result ≡ found (c .before .before .before .before .before .before .before .before .before .before .args .t) (passes (Overlapping (ofAddress (destination (c .before .before .before .before .before .before .before .before .before .before .args .packet .now)))))
 found-to c =
-    c .find .ensures ∙ ap (λ (p : Prefix). found (c .before .before .before .before .before .before .before .before .args .t) (passes (Overlapping p))) (c .before .of-address .ensures ∙ ap ofAddress (c .before .before .destination-of .ensures))
+    c .find .ensures ∙ ap (λ (p : Prefix). found (c .before .before .before .before .before .before .before .before .before .before .args .t) (passes (Overlapping p))) (c .before .before .before .of-address .ensures ∙ ap ofAddress (c .before .before .before .before .destination-of .ensures))
 
 returns-2 : tie.Need-returns-2
 returns-2 c =
-    let args = c .before .before .before .before .before .before .before .before .before .before .args in
+    let args = c .before .before .before .before .before .before .before .before .before .before .before .before .args in
     let l = counted (args .t) in
     let x = indication (args .h) (args .packet .now) in
-    let bytes = address (c .before .before .before .before .before .before .before .before .before) 24 in
+    let bytes = address (c .before .before .before .before .before .before .before .before .before .before .before) 24 in
     let is = found-to (c .before .before) in
     let held = sym (reached-any (args .t) (destination (x .packet)) bytes _ is) ∙ c .before .if3 .taken in
     c .link-in .ensures
     ∙ reached-link (args .t) (destination (x .packet)) bytes _ is
-    ∙ ap (chosen (args .t)) (index-kept (λ s. reaches s (destination (x .packet))) l (IndexOr (λ s. reaches s (source (x .packet))) l dgvlIndex) held ∙ sym (index-unicast l x (c .before .before .before .before .before .if2 .taken)))
+    ∙ ap (chosen (args .t)) (index-kept (λ s. reaches s (destination (x .packet))) l (IndexOr (λ s. reaches s (source (x .packet))) l dgvlIndex) held ∙ sym (index-unicast l x (c .before .before .before .before .before .before .before .if2 .taken)))
     ∙ chosen-by-index (args .t) x
 
 returns-3 : tie.Need-returns-3
@@ -59,8 +59,8 @@ returns-3 c =
     let args = c .before .before .before .before .before .before .before .before .before .before .before .before .before .args in
     let l = counted (args .t) in
     let x = indication (args .h) (args .packet .now) in
-    let not-held = sym (reached-any (args .t) (destination (x .packet)) (address (c .before .before .before .before .before .before .before .before .before .before .before .before) 24) _ (found-to (c .before .before .before .before .before))) ∙ c .before .before .before .before .if3 .left in
-    let is = c .before .find2 .ensures ∙ ap (λ (p : Prefix). found (args .t) (passes (Overlapping p))) (c .before .before .of-address2 .ensures ∙ ap ofAddress (c .before .before .before .source-of .ensures)) in
+    let not-held = sym (reached-any (args .t) (destination (x .packet)) (address (c .before .before .before .before .before .before .before .before .before .before .before .before) 24) _ (found-to (c .before .before .before))) ∙ c .before .before .if3 .left in
+    let is = c .before .find2 .ensures ∙ ap (λ (p : Prefix). found (args .t) (passes (Overlapping p))) (c .before .before .before .before .of-address2 .ensures ∙ ap ofAddress (c .before .before .before .before .before .source-of .ensures)) in
     c .link-in2 .ensures
     ∙ reached-link (args .t) (source (x .packet)) (address (c .before .before .before .before .before .before .before .before .before .before .before .before) 8) _ is
     ∙ ap (chosen (args .t)) (index-failing (λ s. reaches s (destination (x .packet))) l (IndexOr (λ s. reaches s (source (x .packet))) l dgvlIndex) not-held ∙ sym (index-unicast l x (c .before .before .before .before .before .before .before .before .if2 .taken)))
@@ -114,9 +114,9 @@ chosen-for-spec =
     (λ c κs. tt)
     (λ c κs. tt)
     (λ c κs. tt)
+    (λ c κs. tt)
+    (λ c κs. tt)
     returns-2
-    (λ c κs. tt)
-    (λ c κs. tt)
     (λ c κs. tt)
     (λ c κs. tt)
     returns-3
