@@ -1,33 +1,27 @@
 // The benchmark: the proved layer and the C version replay the same day files, alternately, in one run. Of each the fastest of
 // several rounds counts. The cost of one kind of record is that of a day with many of them less that of the day without them; the
 // two days take turns too, so that a slow spell of the machine falls on both.
+//
+// With COUNT_COPIES the same rows count copies of the table (copies.c), with COUNT_INSTRUCTIONS instructions (instructions.c). What is
+// counted is the same each time, so that few records and one round do.
 #include "day.h"
+
+#if defined COUNT_COPIES || defined COUNT_INSTRUCTIONS
+#define COUNT
+#endif
 
 int printf(const char *format, ...);
 void *malloc(usize n);
-struct timespec { long seconds, nanoseconds; };
-int clock_gettime(int clock, struct timespec *t);
-#define MONOTONIC 1
 
+#ifdef COUNT
+enum { MANY = 20, LARGEST = 4000000 };
+#else
 enum { ROUNDS = 101, MANY = 500, LARGEST = 4000000 };
+#endif
 static const u64 NO_STOP = 1000;
 
 struct cost { double c, proved; };
 static int wrong;
-
-static double now(void) {
-    struct timespec t;
-    clock_gettime(MONOTONIC, &t);
-    return (double)t.seconds * 1e9 + (double)t.nanoseconds;
-}
-
-static double time_of(side *replay, const struct day *d, int times) {
-    static u8 out[ROOM];
-    static u64 lines[NUMBERS];
-    double before = now();
-    for (int i = 0; i < times; i++) replay(d->bytes, d->length, out, ROOM, lines, NUMBERS);
-    return (now() - before) / times;
-}
 
 // Both sides must store as many lines, the same numbers in them, and leave the same buffer behind. All of the numbers and of the
 // buffer is compared, also what must stay as it was.
@@ -48,19 +42,34 @@ static bool fits(const struct day *d) {
     return c_whole_day(d->bytes, d->length, out, ROOM, lines, NUMBERS) < NUMBERS / 4;
 }
 
-#ifdef COUNT_COPIES
-// The same driver linked with copies.c counts copies of the table instead of time.
-u64 copies_of(side *replay, const struct day *d);
-
+// What each of the days costs. Both sides replay a day before it counts, so that it is known to be the same work.
+#ifdef COUNT
 static void costs_of(const struct day *d, int days, struct cost *cost) {
     for (int k = 0; k < days; k++) {
-        cost[k].c = (double)copies_of(c_whole_day, &d[k]);
-        cost[k].proved = (double)copies_of(gn6_whole_day, &d[k]);
+        if (!alike(&d[k], ROOM, NUMBERS) || !fits(&d[k])) wrong++;
+        cost[k].c = (double)count_of(c_whole_day, &d[k]);
+        cost[k].proved = (double)count_of(gn6_whole_day, &d[k]);
     }
 }
-
-static void print_row(const char *name, struct cost x) { printf("%-52s %9.0f %9.0f\n", name, x.c, x.proved); }
 #else
+struct timespec { long seconds, nanoseconds; };
+int clock_gettime(int clock, struct timespec *t);
+#define MONOTONIC 1
+
+static double now(void) {
+    struct timespec t;
+    clock_gettime(MONOTONIC, &t);
+    return (double)t.seconds * 1e9 + (double)t.nanoseconds;
+}
+
+static double time_of(side *replay, const struct day *d, int times) {
+    static u8 out[ROOM];
+    static u64 lines[NUMBERS];
+    double before = now();
+    for (int i = 0; i < times; i++) replay(d->bytes, d->length, out, ROOM, lines, NUMBERS);
+    return (now() - before) / times;
+}
+
 static void keep_the_faster(struct cost *best, const struct day *d, int times) {
     double c = time_of(c_whole_day, d, times);
     double proved = time_of(gn6_whole_day, d, times);
@@ -68,7 +77,7 @@ static void keep_the_faster(struct cost *best, const struct day *d, int times) {
     if (proved < best->proved) best->proved = proved;
 }
 
-// Nanoseconds for each of the days, in each round as many times as make a millisecond.
+// Nanoseconds, in each round as many times as make a millisecond.
 static void costs_of(const struct day *d, int days, struct cost *cost) {
     int times[2];
     for (int k = 0; k < days; k++) {
@@ -79,6 +88,20 @@ static void costs_of(const struct day *d, int days, struct cost *cost) {
     for (int i = 0; i < ROUNDS; i++)
         for (int k = 0; k < days; k++) keep_the_faster(&cost[k], &d[k], times[k]);
 }
+#endif
+
+// The head of the rows, and a row. Most rows have no copies on the C side, so that there is no ratio of them.
+#ifdef COUNT_COPIES
+static void print_head(void) { printf("%-52s %9s %9s\n", "copies of the table for one record", "C", "proved"); }
+
+static void print_row(const char *name, struct cost x) { printf("%-52s %9.0f %9.0f\n", name, x.c, x.proved); }
+#else
+#ifdef COUNT_INSTRUCTIONS
+#define UNIT "one record, in instructions"
+#else
+#define UNIT "one record, in nanoseconds"
+#endif
+static void print_head(void) { printf("%-52s %9s %9s %7s\n", UNIT, "C", "proved", "ratio"); }
 
 static void print_row(const char *name, struct cost x) {
     printf("%-52s %9.1f %9.1f %7.2f\n", name, x.c, x.proved, x.proved / x.c);
@@ -205,19 +228,13 @@ static void compare_damaged_days(int count) {
 }
 
 int main(void) {
-#ifdef COUNT_COPIES
-    printf("%-52s %9s %9s\n", "copies of the table for one record", "C", "proved");
-#else
     compare_damaged_days(20000);
-    printf("%-52s %9s %9s %7s\n", "one record, in nanoseconds", "C", "proved", "ratio");
-#endif
+    print_head();
     print_table_calls();
     print_indications();
     print_requests_and_reading();
     printf("growth\n");
     print_growth();
-#ifndef COUNT_COPIES
     printf("days on which the two sides differ: %d\n", wrong);
-#endif
     return wrong != 0;
 }

@@ -1,6 +1,6 @@
 // Counts the copies of a table that each kind of record makes: the C library's memcpy and memmove are replaced by ones that count
-// the calls for 2 KiB or more. A table has 2,864 bytes, and nothing else that is copied is as long. memset is replaced with them
-// and counts nothing: to fill a table is no copy.
+// the calls for 2 KiB or more. A table is longer than that, and nothing else that is copied is as long. memset is replaced with
+// them and counts nothing: to fill a table is no copy.
 #include "day.h"
 
 static u64 copies;
@@ -23,7 +23,7 @@ void *memset(void *to, int value, usize n) {
     return to;
 }
 
-u64 copies_of(side *replay, const struct day *d) {
+u64 count_of(side *replay, const struct day *d) {
     static u8 out[ROOM];
     static u64 lines[NUMBERS];
     copies = 0;

@@ -28,6 +28,9 @@ enum { ROOM = 1294, NUMBERS = 4 * 2048 };
 // A day file as it is made (make.c).
 struct day { u8 *bytes; usize length; };
 
+// Of one replay: the copies of the table (copies.c), or the instructions (instructions.c).
+u64 count_of(side *replay, const struct day *d);
+
 void put(struct day *d, u64 number);
 void put_start(struct day *d, u64 max);
 void put_enable(struct day *d, u64 stop);
