@@ -26,9 +26,6 @@ abbrev μ-loop : tie.MeasureT-loop
 all : (c : tie.Start Inv-loop μ-loop) → length (c .args .t1 .slots) ≡ 64
 all c = search (length-mapped, needs)
 
-slot-count-requires : tie.Need-slot-count-requires Inv-loop μ-loop
-slot-count-requires c κs = search needs
-
 loop-holds : tie.Need-loop-holds Inv-loop μ-loop
 loop-holds c =
     let args = c .before .args in
@@ -39,9 +36,6 @@ mul-x c = omega arith
 
 element-copy-out-x : tie.Need-element-copy-out-x Inv-loop μ-loop
 element-copy-out-x c = omega arith
-
-is-wanted-requires : tie.Need-is-wanted-requires Inv-loop μ-loop
-is-wanted-requires c κs = search needs
 
 index-of-requires : tie.Need-index-of-requires Inv-loop μ-loop
 index-of-requires c κs = omega (arith, c .before .before .before .before .before .before .before .slot-count .ensures)
@@ -85,11 +79,11 @@ find-spec =
     (tie.spec
     Inv-loop
     μ-loop
-    slot-count-requires
+    (λ c κs. tt)
     loop-holds
     mul-x
     element-copy-out-x
-    is-wanted-requires
+    (λ c κs. tt)
     index-of-requires
     returns
     add-i

@@ -11,18 +11,6 @@ use Rattle.value_slots.proofs.slot_at.Tie as tie
 all : (c : tie.Start) → length (c .args .t1 .slots) ≡ 64
 all c = search (length-mapped, needs)
 
-place-in-requires : tie.Need-place-in-requires
-place-in-requires c κs = search needs
-
-mul-x : tie.Need-mul-x
-mul-x c = search needs
-
-element-copy-out-x : tie.Need-element-copy-out-x
-element-copy-out-x c = search needs
-
-slot-from-requires : tie.Need-slot-from-requires
-slot-from-requires c κs = search needs
-
 returns : tie.Need-returns
 returns c =
     let args = c .before .before .before .args in
@@ -32,4 +20,10 @@ returns c =
 
 pub slot-at-spec : {M : Type 1} → statement M
 slot-at-spec =
-    tie.close (tie.spec place-in-requires mul-x element-copy-out-x slot-from-requires returns)
+    tie.close
+    (tie.spec
+    (λ c κs. tt)
+    (λ c. search needs)
+    (λ c. search needs)
+    (λ c κs. tt)
+    returns)

@@ -1,17 +1,10 @@
 -- `value_traffic::request` meets its contract.
 use mathlib.Core.Path.{sym, _∙_, ap}
-use borrow.Author.Needs.{needs}
 use Rattle.links.specs.declared.Named.{Named}
 use Rattle.traffic.specs.Leaves.{request, sendNamed}
 use Rattle.traffic.proofs.Laws.Send.{sent-named}
 use Rattle.value_traffic.proofs.request.Statement.{statement}
 use Rattle.value_traffic.proofs.request.Tie as tie
-
-link-at-requires : tie.Need-link-at-requires
-link-at-requires c κs = search needs
-
-request-on-requires : tie.Need-request-on-requires
-request-on-requires c κs = search needs
 
 returns : tie.Need-returns
 returns c =
@@ -20,4 +13,9 @@ returns c =
     c .request-on .ensures ∙ ap (λ (l : Named). sendNamed l q) (c .before .link-at .ensures) ∙ sym (sent-named (args .t) q)
 
 pub request-spec : {M : Type 1} → statement M
-request-spec = tie.close (tie.spec link-at-requires request-on-requires returns)
+request-spec =
+    tie.close
+    (tie.spec
+    (λ c κs. tt)
+    (λ c κs. tt)
+    returns)

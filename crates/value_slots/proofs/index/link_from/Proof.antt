@@ -21,4 +21,9 @@ returns-3 c =
     rw (le-ltb _ 2 stop, ne-eqb _ 0 (c .before .before .before .before .before .before .if1 .left), ne-eqb _ 1 (c .before .before .before .if2 .left))
 
 pub link-from-spec : {M : Type 1} → statement M
-link-from-spec = tie.close (tie.spec returns returns-2 returns-3)
+link-from-spec =
+    tie.close
+    (tie.spec
+    returns
+    returns-2
+    returns-3)

@@ -26,9 +26,6 @@ stop c = le-ltb _ 2 (c .if1 .left)
 found : (c : tie.After-slot-at) → let args = c .before .before .before .before .args in slotAt (counted (args .t)) (args .index) .enabled ≡ c .slot-at .result .enabled
 found c = ap (λ (x : Slot). x .enabled) (sym (c .slot-at .ensures))
 
-unchanged-requires : tie.Need-unchanged-requires
-unchanged-requires c κs = search needs
-
 returns : tie.Need-returns
 unfolding rules
 returns c =
@@ -36,12 +33,6 @@ returns c =
       c .unchanged .ensures .0 ∙ sym (refused (args .t) (disable (args .index)) 15 (lit< tt) (rw (lt-ltb _ _ (c .before .if1 .taken)))),
       c .unchanged .ensures .1,
     )
-
-slot-at-requires : tie.Need-slot-at-requires
-slot-at-requires c κs = search needs
-
-unchanged-requires-2 : tie.Need-unchanged-requires-2
-unchanged-requires-2 c κs = search needs
 
 returns-2 : tie.Need-returns-2
 unfolding rules
@@ -52,14 +43,8 @@ returns-2 c =
       c .unchanged2 .ensures .1,
     )
 
-blank-slot-requires : tie.Need-blank-slot-requires
-blank-slot-requires c κs = search needs
-
 sub-with-slot : tie.Need-sub-with-slot
 sub-with-slot c = omega (arith, c .before .before .before .before .before .before .if1 .left)
-
-with-slot-requires : tie.Need-with-slot-requires
-with-slot-requires c κs = search needs
 
 returns-3 : tie.Need-returns-3
 unfolding rules tableAfter linkAfter
@@ -77,12 +62,12 @@ pub disable-spec : {M : Type 1} → statement M
 disable-spec =
     tie.close
     (tie.spec
-    unchanged-requires
+    (λ c κs. tt)
     returns
-    slot-at-requires
-    unchanged-requires-2
+    (λ c κs. tt)
+    (λ c κs. tt)
     returns-2
-    blank-slot-requires
+    (λ c κs. tt)
     sub-with-slot
-    with-slot-requires
+    (λ c κs. tt)
     returns-3)

@@ -13,12 +13,6 @@ use Rattle.value_table.proofs.changes.own_mid.Tie as tie
 all : (c : tie.Start) → length (c .args .t1 .slots) ≡ 64
 all c = search (length-mapped, needs)
 
-mid-ok-requires : tie.Need-mid-ok-requires
-mid-ok-requires c κs = search needs
-
-unchanged-requires : tie.Need-unchanged-requires
-unchanged-requires c κs = search needs
-
 returns : tie.Need-returns
 unfolding rules
 returns c =
@@ -26,9 +20,6 @@ returns c =
       c .unchanged .ensures .0 ∙ sym (refused (args .t1) (setOwn (args .mid)) 1 (lit< tt) (rw (← c .before .before .mid-ok .ensures, c .before .if1 .taken))),
       c .unchanged .ensures .1,
     )
-
-element-copy-out-slot : tie.Need-element-copy-out-slot
-element-copy-out-slot c = search needs
 
 returns-2 : tie.Need-returns-2
 unfolding rules tableAfter linkAfter
@@ -42,4 +33,9 @@ returns-2 c =
 pub own-mid-spec : {M : Type 1} → statement M
 own-mid-spec =
     tie.close
-    (tie.spec mid-ok-requires unchanged-requires returns element-copy-out-slot returns-2)
+    (tie.spec
+    (λ c κs. tt)
+    (λ c κs. tt)
+    returns
+    (λ c. search needs)
+    returns-2)

@@ -11,11 +11,12 @@ use Rattle.value_table.proofs.changes.unchanged.Tie as tie
 all : (c : tie.Start) → length (c .args .t1 .slots) ≡ 64
 all c = search (length-mapped, needs)
 
-element-copy-out-slot : tie.Need-element-copy-out-slot
-element-copy-out-slot c = search needs
-
 returns : tie.Need-returns
 returns c = (rw (first-kept (c .before .args .t1 .slots) _ (all (c .before))), lit< tt)
 
 pub unchanged-spec : {M : Type 1} → statement M
-unchanged-spec = tie.close (tie.spec element-copy-out-slot returns)
+unchanged-spec =
+    tie.close
+    (tie.spec
+    (λ c. search needs)
+    returns)
