@@ -9,7 +9,7 @@ use links::Slot;
 use links::Table;
 use prefix::Prefix;
 ghost use mathlib.Core.Path.{_≡_};
-ghost use Prim.Native.Nat.{_-_, _≤_, _<_, min};
+ghost use Prim.Native.Nat.{_-_, _≤_, min};
 ghost use Rattle.links.specs.Slots.{indexAt, counted, slotAt};
 ghost use Rattle.value_slots.specs.Search.{passes, found, slotPlace, placeIn, slotFrom};
 
@@ -110,7 +110,7 @@ pub fn find(t: Table, wanted: Wanted) -> Found
 
 // Where the slot of a link stands; the first place for a fixed link and past the last slot, which have none.
 pub fn place_in(index: LinkIndex) -> usize
-    ensures { λ r. ⌜ (r ≡ placeIn index) × (r < 64) ⌝ }
+    ensures { λ r. ⌜ r ≡ placeIn index ⌝ }
 {
     let k = place_of(index);
     if k < links::SLOTS {

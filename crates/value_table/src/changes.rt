@@ -7,9 +7,7 @@ use links::Slot;
 use links::Table;
 use value_slots::Wanted;
 ghost use mathlib.Core.Path.{_≡_};
-ghost use Prim.Native.Nat.{_<_};
-ghost use Rattle.links.specs.Calls.{reply, enable, disable, setOwn};
-ghost use Rattle.value_table.specs.Changes.{carriedOut};
+ghost use Rattle.value_table.specs.Changes.{unchangedBy, slotChange, enableChange, disableChange, ownChange};
 
 // The number and the link of the reply, and what the table holds behind the call: its own MID, and one slot by its place. What does
 // not change is told as it was. The DGVL's area is not here: no covered form writes an enum into a table that stays where it is.
@@ -23,7 +21,7 @@ pub struct Change {
 
 // Nothing changes: a refusal, by its number.
 pub fn unchanged(t: Table, number: u8) -> Change
-    ensures { λ r. ⌜ (carriedOut t r ≡ record { number = number; link = PerhapsLink.Nothing; table = t }) × (r .place < 64) ⌝ }
+    ensures { λ r. ⌜ r ≡ unchangedBy t number ⌝ }
 {
     let slot = t.slots[0];
     Change {
@@ -36,7 +34,7 @@ pub fn unchanged(t: Table, number: u8) -> Change
 }
 
 fn with_slot(t: Table, link: PerhapsLink, place: usize, slot: Slot) -> Change
-    ensures { λ r. ⌜ r ≡ record { number = 0; link = link; own = t .own; place = place; slot = slot } ⌝ }
+    ensures { λ r. ⌜ r ≡ slotChange t link place slot ⌝ }
 {
     Change {
         number: replies::DONE,
@@ -48,7 +46,7 @@ fn with_slot(t: Table, link: PerhapsLink, place: usize, slot: Slot) -> Change
 }
 
 pub fn enable(t: Table, s: Settings) -> Change
-    ensures { λ r. ⌜ (carriedOut t r ≡ reply t (enable s)) × (r .place < 64) ⌝ }
+    ensures { λ r. ⌜ r ≡ enableChange t s ⌝ }
 {
     let bad = links::checks::settings_refusal(s);
     if bad != replies::DONE {
@@ -78,7 +76,7 @@ pub fn enable(t: Table, s: Settings) -> Change
 }
 
 pub fn disable(t: Table, index: LinkIndex) -> Change
-    ensures { λ r. ⌜ (carriedOut t r ≡ reply t (disable index)) × (r .place < 64) ⌝ }
+    ensures { λ r. ⌜ r ≡ disableChange t index ⌝ }
 {
     if index.0 < LinkIndex::FIRST_STOP.0 {
         return unchanged(t, replies::FIXED_LINK);
@@ -97,7 +95,7 @@ pub fn disable(t: Table, index: LinkIndex) -> Change
 }
 
 pub fn own_mid(t: Table, mid: u64) -> Change
-    ensures { λ r. ⌜ (carriedOut t r ≡ reply t (setOwn mid)) × (r .place < 64) ⌝ }
+    ensures { λ r. ⌜ r ≡ ownChange t mid ⌝ }
 {
     if !links::checks::mid_ok(mid) {
         return unchanged(t, replies::VALUE_OUT_OF_RANGE);

@@ -4,9 +4,9 @@ use native.Mathlib.Omega.{arith}
 use mathlib.Core.Path.{_≡_, refl, sym, _∙_, ap}
 use mathlib.Core.Bool.{Bool, true, false, cond}
 use mathlib.Core.List.{List}
-use lib.Dec.{leb}
+use lib.Dec.{leb, ltb, lit<}
 use lib.ListN.{length, getD}
-use borrow.Author.Tests.{leb-true, leb-false, lt-ltb}
+use borrow.Author.Tests.{leb-true, leb-false, ltb-true, lt-ltb}
 use Rattle.links.specs.declared.LinkIndex.{LinkIndex}
 use Rattle.links.specs.declared.Slot.{Slot}
 use Rattle.links.specs.declared.Table.{Table}
@@ -21,6 +21,13 @@ read-by-place l i h = go (isFixed i)
     go : (b : Bool) → cond b free (getD l (placeOf i) free) ≡ getD l (cond b 64 (placeOf i)) free
     go true = sym (beyond l 64 h)
     go false = refl
+
+pub place-fits : (i : LinkIndex) → placeIn i < 64
+place-fits i = go (ltb (slotPlace i) 64) refl
+  where
+    go : (b : Bool) → ltb (slotPlace i) 64 ≡ b → cond b (slotPlace i) 0 < 64
+    go true e = ltb-true (slotPlace i) 64 e
+    go false e = lit< tt
 
 -- whoever holds the table reads the place, whatever its default
 pub from-place : (t : Table) (i : LinkIndex) (d : Slot) → length (t .slots) ≡ 64 → slotFrom (t .max) i (getD (t .slots) (placeIn i) d) ≡ slotAt (counted t) i
