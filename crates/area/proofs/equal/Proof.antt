@@ -22,4 +22,8 @@ unfolding sameArea
 returns-2 c = search (eq-bits, c .before .before .before .before .before .before .before .before .before .before .before .before .before .before .before .before .before .before .before .before .before .good, needs)
 
 pub equal-spec : {M : Type 1} → statement M
-equal-spec = tie.close (tie.spec returns returns-2)
+equal-spec =
+    tie.close
+    (tie.spec
+    returns
+    returns-2)

@@ -6,25 +6,10 @@ use borrow.Author.Needs.{needs}
 use Rattle.frames.proofs.put_packet.Statement.{statement}
 use Rattle.frames.proofs.put_packet.Tie as tie
 
-copy-requires : tie.Need-copy-requires
-copy-requires c κs = search needs
-
-same-length : tie.Need-same-length
-same-length c = search needs
-
 returns : tie.Need-returns
 returns c =
     let p = c .before .before .before .before .before .before .before .args .packet .now in
     (c .before .before .copy .ensures .0, rw (take-length p) at (c .before .before .copy .ensures .1))
-
-slice-aggregate-copy : tie.Need-slice-aggregate-copy
-slice-aggregate-copy c = search needs
-
-copy-requires-2 : tie.Need-copy-requires-2
-copy-requires-2 c κs = search needs
-
-array-share-prefix-room : tie.Need-array-share-prefix-room
-array-share-prefix-room c = search needs
 
 -- what the array holds up to the packet's length is the packet
 kept : (c : tie.After-copy2) → take (c .copy2 .result) (c .copy2 .last .1 .0) ≡ c .before .before .before .before .before .args .packet .now
@@ -38,9 +23,6 @@ slice-aggregate-copy-2 c = rw (kept (c .before .before)) (c .before .before .cop
 copy-requires-3 : tie.Need-copy-requires-3
 copy-requires-3 c κs = rw (kept (c .before .before .before)) (c .before .before .before .before .before .before .before .before .pre)
 
-same-length-2 : tie.Need-same-length-2
-same-length-2 c = search needs
-
 returns-2 : tie.Need-returns-2
 returns-2 c =
     let p = c .before .before .before .before .before .before .before .before .before .before .before .args .packet .now in
@@ -51,13 +33,13 @@ pub put-packet-spec : {M : Type 1} → statement M
 put-packet-spec =
     tie.close
     (tie.spec
-    copy-requires
-    same-length
+    (λ c κs. search needs)
+    (λ c. search needs)
     returns
-    slice-aggregate-copy
-    copy-requires-2
-    array-share-prefix-room
+    (λ c. search needs)
+    (λ c κs. search needs)
+    (λ c. search needs)
     slice-aggregate-copy-2
     copy-requires-3
-    same-length-2
+    (λ c. search needs)
     returns-2)

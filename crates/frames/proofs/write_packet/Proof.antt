@@ -10,15 +10,15 @@ returns : tie.Need-returns
 unfolding put putLength
 returns c = rw (lt-ltb _ _ (c .if1 .taken)) (refl, refl)
 
-put-packet-requires : tie.Need-put-packet-requires
-put-packet-requires c κs = search needs
-
-same-length : tie.Need-same-length
-same-length c = search needs
-
 returns-2 : tie.Need-returns-2
 unfolding put putLength
 returns-2 c = rw (le-ltb _ _ (c .before .before .before .before .if1 .left)) (c .before .before .put-packet .ensures)
 
 pub write-packet-spec : {M : Type 1} → statement M
-write-packet-spec = tie.close (tie.spec returns put-packet-requires same-length returns-2)
+write-packet-spec =
+    tie.close
+    (tie.spec
+    returns
+    (λ c κs. search needs)
+    (λ c. search needs)
+    returns-2)

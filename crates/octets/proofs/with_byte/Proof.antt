@@ -5,12 +5,6 @@ use borrow.Author.Needs.{needs}
 use Rattle.octets.proofs.with_byte.Statement.{statement}
 use Rattle.octets.proofs.with_byte.Tie as tie
 
-mul-result : tie.Need-mul-result
-mul-result c = search needs
-
-shared-slice-read-result : tie.Need-shared-slice-read-result
-shared-slice-read-result c = search needs
-
 cast-result : tie.Need-cast-result
 cast-result c = omega (arith, c .shared-slice-known .given (c .before .args .i))
 
@@ -21,4 +15,11 @@ returns : tie.Need-returns
 returns c = (refl, omega (arith, c .shared-slice-known .given (c .before .args .i)))
 
 pub with-byte-spec : {M : Type 1} → statement M
-with-byte-spec = tie.close (tie.spec mul-result shared-slice-read-result cast-result add-result returns)
+with-byte-spec =
+    tie.close
+    (tie.spec
+    (λ c. search needs)
+    (λ c. search needs)
+    cast-result
+    add-result
+    returns)

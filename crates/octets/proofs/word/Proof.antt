@@ -10,38 +10,8 @@ use Rattle.octets.proofs.Laws.Runs.{spread, part-spread}
 use Rattle.octets.proofs.word.Statement.{statement}
 use Rattle.octets.proofs.word.Tie as tie
 
-part-requires : tie.Need-part-requires
-part-requires c κs = search needs
-
-number-requires : tie.Need-number-requires
-number-requires c κs = search needs
-
 returns : tie.Need-returns
 returns c = c .number .ensures .0 ∙ ap bigEndian (c .before .before .part .ensures)
-
-with-byte-requires : tie.Need-with-byte-requires
-with-byte-requires c κs = search needs
-
-with-byte-requires-2 : tie.Need-with-byte-requires-2
-with-byte-requires-2 c κs = search needs
-
-with-byte-requires-3 : tie.Need-with-byte-requires-3
-with-byte-requires-3 c κs = search needs
-
-with-byte-requires-4 : tie.Need-with-byte-requires-4
-with-byte-requires-4 c κs = search needs
-
-with-byte-requires-5 : tie.Need-with-byte-requires-5
-with-byte-requires-5 c κs = search needs
-
-with-byte-requires-6 : tie.Need-with-byte-requires-6
-with-byte-requires-6 c κs = search needs
-
-with-byte-requires-7 : tie.Need-with-byte-requires-7
-with-byte-requires-7 c κs = search needs
-
-with-byte-requires-8 : tie.Need-with-byte-requires-8
-with-byte-requires-8 c κs = search needs
 
 returns-2 : tie.Need-returns-2
 unfolding number
@@ -56,15 +26,15 @@ pub word-spec : {M : Type 1} → statement M
 word-spec =
     tie.close
     (tie.spec
-    part-requires
-    number-requires
+    (λ c κs. search needs)
+    (λ c κs. search needs)
     returns
-    with-byte-requires
-    with-byte-requires-2
-    with-byte-requires-3
-    with-byte-requires-4
-    with-byte-requires-5
-    with-byte-requires-6
-    with-byte-requires-7
-    with-byte-requires-8
+    (λ c κs. search needs)
+    (λ c κs. search needs)
+    (λ c κs. search needs)
+    (λ c κs. search needs)
+    (λ c κs. search needs)
+    (λ c κs. search needs)
+    (λ c κs. search needs)
+    (λ c κs. search needs)
     returns-2)

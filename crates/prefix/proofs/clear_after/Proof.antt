@@ -8,21 +8,12 @@ use Rattle.prefix.proofs.Laws.Words.{clear-words, shifted-out}
 use Rattle.prefix.proofs.clear_after.Statement.{statement}
 use Rattle.prefix.proofs.clear_after.Tie as tie
 
-shl-result : tie.Need-shl-result
-shl-result c = search needs
-
 returns : tie.Need-returns
 returns c =
     let a = c .before .args in
     let all : 64 - (a .n - 64) ≡ 64 = omega arith in
     let low : a .low < 2 ^ 64 = search needs in
     rw (shifted-out (a .n) (a .high) (omega arith), clear-words (a .n) (a .high) (a .low), all, mod-eq-of-lt low)
-
-cast-result : tie.Need-cast-result
-cast-result c = search needs
-
-shl-result-2 : tie.Need-shl-result-2
-shl-result-2 c = search needs
 
 returns-2 : tie.Need-returns-2
 returns-2 c =
@@ -39,4 +30,11 @@ returns-3 c =
 
 pub clear-after-spec : {M : Type 1} → statement M
 clear-after-spec =
-    tie.close (tie.spec shl-result returns cast-result shl-result-2 returns-2 returns-3)
+    tie.close
+    (tie.spec
+    (λ c. search needs)
+    returns
+    (λ c. search needs)
+    (λ c. search needs)
+    returns-2
+    returns-3)

@@ -1,15 +1,8 @@
 -- `prefix::holds_address` meets its contract.
 use mathlib.Core.Path.{sym}
-use borrow.Author.Needs.{needs}
 use Rattle.prefix.proofs.Laws.Overlap.{holds-as-overlap}
 use Rattle.prefix.proofs.holds_address.Statement.{statement}
 use Rattle.prefix.proofs.holds_address.Tie as tie
-
-of-address-requires : tie.Need-of-address-requires
-of-address-requires c κs = search needs
-
-overlaps-requires : tie.Need-overlaps-requires
-overlaps-requires c κs = search needs
 
 returns : tie.Need-returns
 returns c =
@@ -18,4 +11,9 @@ returns c =
     (sym (holds-as-overlap (args .p) (args .address .now) (λ i. c .before .before .shared-slice-known .given i .fits)))
 
 pub holds-address-spec : {M : Type 1} → statement M
-holds-address-spec = tie.close (tie.spec of-address-requires overlaps-requires returns)
+holds-address-spec =
+    tie.close
+    (tie.spec
+    (λ c κs. tt)
+    (λ c κs. tt)
+    returns)

@@ -1,12 +1,8 @@
 -- `prefix::holds_prefix` meets its contract.
 use mathlib.Core.Path.{sym}
-use borrow.Author.Needs.{needs}
 use Rattle.prefix.proofs.Laws.Overlap.{held-as-overlap}
 use Rattle.prefix.proofs.holds_prefix.Statement.{statement}
 use Rattle.prefix.proofs.holds_prefix.Tie as tie
-
-overlaps-requires : tie.Need-overlaps-requires
-overlaps-requires c κs = search needs
 
 returns : tie.Need-returns
 returns c =
@@ -14,4 +10,8 @@ returns c =
     rw (c .overlaps .ensures) (sym (held-as-overlap (args .p) (args .q)))
 
 pub holds-prefix-spec : {M : Type 1} → statement M
-holds-prefix-spec = tie.close (tie.spec overlaps-requires returns)
+holds-prefix-spec =
+    tie.close
+    (tie.spec
+    (λ c κs. tt)
+    returns)

@@ -30,4 +30,9 @@ returns-2 c =
     rw (c .same-first-bits .ensures, shorter (c .before), overlap-shorter (args .p) (args .q), not-false (ltb 0 (args .p .len) && ltb 0 (args .q .len)) (c .before .before .before .before .if1 .left))
 
 pub overlaps-spec : {M : Type 1} → statement M
-overlaps-spec = tie.close (tie.spec returns same-first-bits-requires returns-2)
+overlaps-spec =
+    tie.close
+    (tie.spec
+    returns
+    same-first-bits-requires
+    returns-2)

@@ -15,18 +15,6 @@ use Rattle.prefix.proofs.Laws.Words.{same-words}
 use Rattle.prefix.proofs.same_first_bits.Statement.{statement}
 use Rattle.prefix.proofs.same_first_bits.Tie as tie
 
-cast-result : tie.Need-cast-result
-cast-result c = search needs
-
-shr-result : tie.Need-shr-result
-shr-result c = search needs
-
-cast-result-2 : tie.Need-cast-result-2
-cast-result-2 c = search needs
-
-shr-result-2 : tie.Need-shr-result-2
-shr-result-2 c = search needs
-
 returns : tie.Need-returns
 returns c =
     let a = c .before .args in
@@ -44,24 +32,6 @@ past c =
     let all : 64 - a .n ≡ 0 = omega arith in
     let rest : 64 - (a .n - 64) ≡ 128 - a .n = omega arith in
     rw (same-words (a .n) (a .high) (a .low) (a .high2) (a .low2) (search needs) (search needs) (search needs) (search needs), all, rest, div-one (a .high), div-one (a .high2))
-
-sub-result : tie.Need-sub-result
-sub-result c = search needs
-
-cast-result-3 : tie.Need-cast-result-3
-cast-result-3 c = search needs
-
-shr-result-3 : tie.Need-shr-result-3
-shr-result-3 c = search needs
-
-sub-result-2 : tie.Need-sub-result-2
-sub-result-2 c = search needs
-
-cast-result-4 : tie.Need-cast-result-4
-cast-result-4 c = search needs
-
-shr-result-4 : tie.Need-shr-result-4
-shr-result-4 c = search needs
 
 returns-2 : tie.Need-returns-2
 returns-2 c = rw (past (c .before .before), eq-eqb _ _ (c .if3 .taken))
@@ -82,17 +52,17 @@ pub same-first-bits-spec : {M : Type 1} → statement M
 same-first-bits-spec =
     tie.close
     (tie.spec
-    cast-result
-    shr-result
-    cast-result-2
-    shr-result-2
+    (λ c. search needs)
+    (λ c. search needs)
+    (λ c. search needs)
+    (λ c. search needs)
     returns
-    sub-result
-    cast-result-3
-    shr-result-3
-    sub-result-2
-    cast-result-4
-    shr-result-4
+    (λ c. search needs)
+    (λ c. search needs)
+    (λ c. search needs)
+    (λ c. search needs)
+    (λ c. search needs)
+    (λ c. search needs)
     returns-2
     returns-3
     returns-4
