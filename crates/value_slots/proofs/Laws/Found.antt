@@ -12,7 +12,6 @@ use Rattle.links.specs.Slots.{dgvlIndex, indexAt, free, counted, any, place}
 use Rattle.links.specs.Index.{interfaceAt, chosen}
 use Rattle.links.proofs.Laws.Kinds.{stop-kind, dynamic-kind, chosen-is}
 use Rattle.links.proofs.Laws.Search.{any-place}
-use Rattle.value_slots.specs.declared.Found.{Found}
 use Rattle.value_slots.specs.Search.{found}
 
 module _ (t : Table) (q : Slot → Bool) where

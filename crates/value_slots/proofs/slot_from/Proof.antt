@@ -1,5 +1,4 @@
 -- `value_slots::slot_from` meets its contract.
-use mathlib.Core.Path.{_≡_}
 use borrow.Author.Tests.{le-leb, lt-leb}
 use Rattle.value_slots.proofs.slot_from.Statement.{statement}
 use Rattle.value_slots.proofs.slot_from.Tie as tie

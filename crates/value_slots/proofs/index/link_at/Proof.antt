@@ -1,10 +1,6 @@
 -- `value_slots::index::link_at` meets its contract.
-use mathlib.Core.Path.{_≡_, sym, _∙_, ap}
 use borrow.Author.Tests.{lt-ltb}
-use Rattle.links.specs.declared.Slot.{Slot}
-use Rattle.links.specs.Slots.{free, counted, slotAt}
 use Rattle.links.specs.Index.{enabledAt, interfaceAt, areaAt}
-use Rattle.value_slots.specs.Search.{namedFrom}
 use Rattle.value_slots.proofs.index.link_at.Statement.{statement}
 use Rattle.value_slots.proofs.index.link_at.Tie as tie
 
