@@ -24,7 +24,7 @@ pub fn indication_values_refusal(h: IndicationHead) -> u8
     replies::DONE
 }
 
-// The number by which its area and its packet refuse an indication: 2, 9, 8, 10 in this order, or 0.
+// The number by which its area and its packet refuse an indication: 2, 9, 20, 21, 22, 10 in this order, or 0.
 pub fn content_refusal(h: IndicationHead, packet: &[u8]) -> u8
     ensures { λ r. ⌜ r ≡ refusal (contentRules (indication h (now (packet .entry)))) ⌝ }
 {
@@ -46,12 +46,13 @@ pub fn choice_refusal(h: IndicationHead, packet: &[u8]) -> u8
     content_refusal(h, packet)
 }
 
-// The reply of an indication that is refused.
-pub fn not_received(number: u8) -> Reception
-    ensures { λ r. ⌜ r ≡ notReceived number ⌝ }
+// The reply of an indication with this packet that is refused.
+pub fn not_received(number: u8, packet: &[u8]) -> Reception
+    ensures { λ r. ⌜ r ≡ notReceived number (now (packet .entry)) ⌝ }
 {
     Reception {
         number: number,
+        place: ipv6::fault_place(number, packet),
         link: PerhapsLink::Nothing,
         length: 0,
         source: 0,
@@ -85,12 +86,13 @@ pub fn deliver(link: Chosen, h: IndicationHead, packet: &[u8], out: &mut [u8]) -
     ensures { λ r. ⌜ (r ≡ deliverOn link (indication h (now (packet .entry))) (now (out .entry)) .reply) × (now (out .exit) ≡ deliverOn link (indication h (now (packet .entry))) (now (out .entry)) .buffer) ⌝ }
 {
     if out.len() < packet.len() + frames::HEADER {
-        return not_received(replies::NO_ROOM);
+        return not_received(replies::NO_ROOM, packet);
     }
     let index = link.index;
     let length = write(link.kind, h, packet, out);
     Reception {
         number: replies::DONE,
+        place: 0,
         link: PerhapsLink::Link(index),
         length: length,
         source: h.source,

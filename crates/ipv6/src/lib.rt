@@ -3,7 +3,7 @@ ghost use mathlib.Core.Path.{_≡_};
 ghost use Rattle.octets.specs.Runs.{same};
 ghost use Rattle.replies.specs.Rules.{refusal};
 ghost use Rattle.ipv6.specs.Address.{multicast, zerosThen, loopback, unspecified};
-ghost use Rattle.ipv6.specs.Packet.{source, destination, malformed, forbidden, packetRules};
+ghost use Rattle.ipv6.specs.Packet.{source, destination, forbidden, packetRules, faultPlace};
 ghost use Rattle.ipv6.specs.Identifier.{flipped, identifier, linkLocal, midOf};
 
 // A MID, where there is one to be had.
@@ -53,16 +53,6 @@ pub fn destination_of(packet: &[u8]) -> &[u8]
     octets::part(packet, 24, 16)
 }
 
-fn is_malformed(packet: &[u8]) -> bool
-    ensures { λ r. ⌜ r ≡ malformed (now (packet .entry)) ⌝ }
-{
-    if packet.len() < 40 {
-        return true;
-    }
-    let payload = octets::number16(packet, 4) as usize;
-    (packet[0] / 16 != 6) | (payload + 40 != packet.len())
-}
-
 fn is_forbidden(packet: &[u8]) -> bool
     ensures { λ r. ⌜ r ≡ forbidden (now (packet .entry)) ⌝ }
 {
@@ -71,20 +61,42 @@ fn is_forbidden(packet: &[u8]) -> bool
     is_multicast(from) | is_loopback(from) | is_unspecified(to) | is_loopback(to)
 }
 
-// The number that refuses a packet, in the order 9, 8, 10; 0 for a good one.
+// The number that refuses a packet, in the order 9, 20, 21, 22, 10; 0 for a good one.
 pub fn packet_refusal(packet: &[u8]) -> u8
     ensures { λ r. ⌜ r ≡ refusal (packetRules (now (packet .entry))) ⌝ }
 {
     if 1280 < packet.len() {
         return replies::PACKET_TOO_LONG;
     }
-    if is_malformed(packet) {
-        return replies::PACKET_MALFORMED;
+    if packet.len() < 40 {
+        return replies::PACKET_SHORT;
     }
-    if is_forbidden(packet) {
+    let wrong_version = packet[0] / 16 != 6;
+    let wrong_length = octets::number16(packet, 4) as usize + 40 != packet.len();
+    let forbidden = is_forbidden(packet);
+    if wrong_version {
+        return replies::VERSION_NOT_6;
+    }
+    if wrong_length {
+        return replies::LENGTH_FIELD_WRONG;
+    }
+    if forbidden {
         return replies::ADDRESS_NOT_ALLOWED;
     }
     replies::DONE
+}
+
+// The place in the packet that a reply of this number gives: where the fault stands, and 0 where none does.
+pub fn fault_place(number: u8, packet: &[u8]) -> usize
+    ensures { λ r. ⌜ r ≡ faultPlace number (now (packet .entry)) ⌝ }
+{
+    if number == replies::PACKET_SHORT {
+        return packet.len();
+    }
+    if number == replies::LENGTH_FIELD_WRONG {
+        return 4;
+    }
+    0
 }
 
 fn flip(b: u8) -> u8

@@ -62,12 +62,13 @@ pub fn request_values_refusal(h: RequestHead) -> u8
     replies::DONE
 }
 
-// The reply of a request that is refused.
-pub fn not_sent(number: u8) -> Sending
-    ensures { λ r. ⌜ r ≡ notSent number ⌝ }
+// The reply of a request with this packet that is refused.
+pub fn not_sent(number: u8, packet: &[u8]) -> Sending
+    ensures { λ r. ⌜ r ≡ notSent number (now (packet .entry)) ⌝ }
 {
     Sending {
         number: number,
+        place: ipv6::fault_place(number, packet),
         transport: 0,
         destination: Destination::Nothing,
         class: 0,
@@ -76,10 +77,11 @@ pub fn not_sent(number: u8) -> Sending
 }
 
 fn sent(transport: u8, destination: Destination, class: u8, length: usize) -> Sending
-    ensures { λ r. ⌜ r ≡ record { number = 0; transport = transport; destination = destination; class = class; length = length } ⌝ }
+    ensures { λ r. ⌜ r ≡ record { number = 0; place = 0; transport = transport; destination = destination; class = class; length = length } ⌝ }
 {
     Sending {
         number: replies::DONE,
+        place: 0,
         transport: transport,
         destination: destination,
         class: class,
@@ -92,17 +94,17 @@ pub fn send_on(link: Named, h: RequestHead, packet: &[u8]) -> Sending
     ensures { λ r. ⌜ r ≡ sendOn link (request h (now (packet .entry))) ⌝ }
 {
     if !link.enabled {
-        return not_sent(replies::NO_SUCH_LINK);
+        return not_sent(replies::NO_SUCH_LINK, packet);
     }
     let bad = ipv6::packet_refusal(packet);
     if bad != replies::DONE {
-        return not_sent(bad);
+        return not_sent(bad, packet);
     }
     let index = h.index;
     if ipv6::is_multicast(ipv6::destination_of(packet)) {
         let area = link.area;
         if (index.0 == LinkIndex::DGVL.0) & is_unset(area) {
-            return not_sent(replies::AREA_MISSING);
+            return not_sent(replies::AREA_MISSING, packet);
         }
         if index.0 == LinkIndex::TVL.0 {
             return sent(traffic::TSB, Destination::Nothing, h.class, packet.len());
@@ -119,7 +121,7 @@ pub fn send_on(link: Named, h: RequestHead, packet: &[u8]) -> Sending
             h.class,
             packet.len(),
         ),
-        PerhapsMid::Nothing => not_sent(replies::NEIGHBOUR_UNKNOWN),
+        PerhapsMid::Nothing => not_sent(replies::NEIGHBOUR_UNKNOWN, packet),
     }
 }
 
@@ -129,7 +131,7 @@ pub fn request_on(link: Named, h: RequestHead, packet: &[u8]) -> Sending
 {
     let number = request_values_refusal(h);
     if number != replies::DONE {
-        return not_sent(number);
+        return not_sent(number, packet);
     }
     send_on(link, h, packet)
 }

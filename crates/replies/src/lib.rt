@@ -15,8 +15,6 @@ pub const NO_INDEX_FREE: u8 = 6;
 
 pub const NO_SUCH_LINK: u8 = 7;
 
-pub const PACKET_MALFORMED: u8 = 8;
-
 pub const PACKET_TOO_LONG: u8 = 9;
 
 pub const ADDRESS_NOT_ALLOWED: u8 = 10;
@@ -32,3 +30,9 @@ pub const RECORD_BROKEN: u8 = 14;
 pub const FIXED_LINK: u8 = 15;
 
 pub const OUT_OF_TURN: u8 = 16;
+
+pub const PACKET_SHORT: u8 = 20;
+
+pub const VERSION_NOT_6: u8 = 21;
+
+pub const LENGTH_FIELD_WRONG: u8 = 22;

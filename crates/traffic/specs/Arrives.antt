@@ -8,7 +8,7 @@ use lib.ListN.{length, getD, drop}
 use Rattle.replies.specs.Rules.{Rule, _if_, _then_, refusal}
 use Rattle.area.specs.declared.Area.{Area}
 use Rattle.area.specs.Area.{goodArea, sameArea}
-use Rattle.ipv6.specs.Packet.{source, destination, packetRules}
+use Rattle.ipv6.specs.Packet.{source, destination, packetRules, faultPlace}
 use Rattle.links.specs.declared.Chosen.{Chosen}
 use Rattle.links.specs.declared.LinkIndex.{LinkIndex}
 use Rattle.links.specs.declared.PerhapsLink.{PerhapsLink}
@@ -141,12 +141,12 @@ abbrev pub chosenFor : Table → Indication → Chosen
 chosenFor t x = record { index = linkIndex (choose (counted t) x); kind = kindOf t (choose (counted t) x) }
 
 -- indication-link: which link an indication would take; none where it is refused, and the room is not asked
-abbrev pub choiceOr : ℕ → PerhapsLink → Choice
-choiceOr zero link = record { number = 0; link = link }
-choiceOr (suc n) link = record { number = suc n; link = NoLink }
+abbrev pub choiceOr : ℕ → Indication → PerhapsLink → Choice
+choiceOr zero x link = record { number = 0; place = 0; link = link }
+choiceOr (suc n) x link = record { number = suc n; place = faultPlace (suc n) (x .packet); link = NoLink }
 
 unfoldable pub choiceOf : Table → Indication → Choice
-choiceOf t x = choiceOr (refusal (choiceRules x)) (indexOf (choose (counted t) x))
+choiceOf t x = choiceOr (refusal (choiceRules x)) x (indexOf (choose (counted t) x))
 
 -- frame-bytes: the destination MID for transport 1, FF:FF:FF:FF:FF:FF otherwise
 abbrev pub macTo : Destination → ℕ
@@ -169,30 +169,30 @@ pub record Received : Type 0 where
 
 abbrev pub deliverAs : List ℕ → Indication → List ℕ → LinkIndex → Received
 deliverAs w x buffer index = record {
-  reply = record { number = 0; link = Linked index; length = length w; source = x .source; class = x .class };
+  reply = record { number = 0; place = 0; link = Linked index; length = length w; source = x .source; class = x .class };
   buffer = w ++ drop (length w) buffer;
 }
 
 abbrev pub deliver : Table → Indication → List ℕ → Link → Received
 deliver t x buffer l = deliverAs (frameOrPacket (kindOf t l) x) x buffer (linkIndex l)
 
-abbrev pub notReceived : ℕ → Reception
-notReceived n = record { number = n; link = NoLink; length = 0; source = 0; class = 0 }
+abbrev pub notReceived : ℕ → List ℕ → Reception
+notReceived n packet = record { number = n; place = faultPlace n packet; link = NoLink; length = 0; source = 0; class = 0 }
 
-abbrev pub refuse : ℕ → List ℕ → Received
-refuse n buffer = record { reply = notReceived n; buffer = buffer }
+abbrev pub refuse : ℕ → Indication → List ℕ → Received
+refuse n x buffer = record { reply = notReceived n (x .packet); buffer = buffer }
 
-abbrev pub unless : ℕ → List ℕ → Received → Received
-unless zero buffer r = r
-unless (suc n) buffer r = refuse (suc n) buffer
+abbrev pub unless : ℕ → Indication → List ℕ → Received → Received
+unless zero x buffer r = r
+unless (suc n) x buffer r = refuse (suc n) x buffer
 
 unfoldable pub receive : Table → Indication → List ℕ → Received
-receive t x buffer = unless (refusal (indicationRules x (length buffer))) buffer (deliver t x buffer (choose (counted t) x))
+receive t x buffer = unless (refusal (indicationRules x (length buffer))) x buffer (deliver t x buffer (choose (counted t) x))
 
 -- the half that knows no layout: an indication that nothing but the room can refuse, on the link that was chosen for it
 unfoldable pub deliverOn : Chosen → Indication → List ℕ → Received
 deliverOn c x buffer =
-    unless (refusal (roomRules x (length buffer))) buffer (deliverAs (frameOrPacket (c .kind) x) x buffer (c .index))
+    unless (refusal (roomRules x (length buffer))) x buffer (deliverAs (frameOrPacket (c .kind) x) x buffer (c .index))
 
 -- what a call of the code promises of its reply r and of the buffer b that it leaves
 abbrev pub Promised : Table → Indication → List ℕ → Reception → List ℕ → Type 0

@@ -41,6 +41,7 @@ pub record OnStop (t : Table) (a : Received) (k : ℕ) (s : Settings) : Type 0 w
 -- all but the link's index is the same, byte for byte
 pub record SameButIndex (a b : Received) : Type 0 where
   pub number : a .reply .number ≡ b .reply .number
+  pub place : a .reply .place ≡ b .reply .place
   pub frameLength : a .reply .length ≡ b .reply .length
   pub source : a .reply .source ≡ b .reply .source
   pub class : a .reply .class ≡ b .reply .class

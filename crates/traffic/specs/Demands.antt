@@ -7,7 +7,7 @@ use mathlib.Core.Bool.{true}
 use mathlib.Core.List.{List}
 use lib.ListN.{length, take, drop}
 use Rattle.replies.specs.Rules.{Exact}
-use Rattle.ipv6.specs.Packet.{destination}
+use Rattle.ipv6.specs.Packet.{destination, Placed}
 use Rattle.ipv6.specs.Identifier.{linkLocal}
 use Rattle.links.specs.declared.LinkIndex.{LinkIndex}
 use Rattle.links.specs.declared.PerhapsLink.the-variants.{Link as Linked, Nothing as NoLink}
@@ -22,9 +22,11 @@ use Rattle.traffic.specs.Leaves.{Request, requestRules, down, send, inte
 
 -- Demand 1
 
--- an indication: each number exactly under its condition; a refusal gives no link and no length, and leaves the buffer as it was
+-- an indication: each number exactly under its condition, with the place of what is bad in the packet; a refusal gives no link
+-- and no length, and leaves the buffer as it was
 pub record RefusesIndication (t : Table) (x : Indication) (buffer : List ℕ) : Type 0 where
   pub exact : Exact (indicationRules x (length buffer)) (receive t x buffer .reply .number)
+  pub place : Placed (x .packet) (receive t x buffer .reply .number) (receive t x buffer .reply .place)
   pub noLink : receive t x buffer .reply .number ≢ 0 → receive t x buffer .reply .link ≡ NoLink
   pub noLength : receive t x buffer .reply .number ≢ 0 → receive t x buffer .reply .length ≡ 0
   pub unchanged : receive t x buffer .reply .number ≢ 0 → receive t x buffer .buffer ≡ buffer
@@ -32,11 +34,13 @@ pub record RefusesIndication (t : Table) (x : Indication) (buffer : List ℕ) : 
 -- the question for its link, where no buffer is lent
 pub record RefusesChoice (t : Table) (x : Indication) : Type 0 where
   pub exact : Exact (choiceRules x) (choiceOf t x .number)
+  pub place : Placed (x .packet) (choiceOf t x .number) (choiceOf t x .place)
   pub noLink : choiceOf t x .number ≢ 0 → choiceOf t x .link ≡ NoLink
 
 -- a request, likewise
 pub record RefusesRequest (t : Table) (q : Request) : Type 0 where
   pub exact : Exact (requestRules t q) (send t q .number)
+  pub place : Placed (q .packet) (send t q .number) (send t q .place)
   pub noLength : send t q .number ≢ 0 → send t q .length ≡ 0
 
 unfoldable pub Demand1 : Type 0
@@ -75,6 +79,7 @@ pub record Delivers (t : Table) (x : Indication) (buffer : List ℕ) : Type 0 wh
 -- the link that is foretold without a buffer is the one that a buffer with room for a frame is given
 pub record Foretells (t : Table) (x : Indication) (buffer : List ℕ) : Type 0 where
   pub number : receive t x buffer .reply .number ≡ choiceOf t x .number
+  pub place : receive t x buffer .reply .place ≡ choiceOf t x .place
   pub link : receive t x buffer .reply .link ≡ choiceOf t x .link
 
 -- a request that is done: what the rules send down, with its class and its packet's length

@@ -8,7 +8,7 @@ use Rattle.replies.specs.Rules.{Rule, _if_, _then_, refusal}
 use Rattle.ipv6.specs.declared.PerhapsMid.{PerhapsMid}
 use Rattle.ipv6.specs.declared.PerhapsMid.the-variants.{Mid as Known, Nothing as Unknown}
 use Rattle.ipv6.specs.Address.{multicast}
-use Rattle.ipv6.specs.Packet.{destination, packetRules}
+use Rattle.ipv6.specs.Packet.{destination, packetRules, faultPlace}
 use Rattle.ipv6.specs.Identifier.{midOf, linkLocal}
 use Rattle.links.specs.declared.PerhapsArea.{PerhapsArea}
 use Rattle.links.specs.declared.PerhapsArea.the-variants.{Set, Unset}
@@ -98,18 +98,19 @@ requestRules t q = requestValues q ++ linkRules (named t (q .index)) q
 
 -- The reply
 
-abbrev pub notSent : ℕ → Sending
-notSent n = record { number = n; transport = 0; destination = Nothing; class = 0; length = 0 }
+abbrev pub notSent : ℕ → List ℕ → Sending
+notSent n packet = record { number = n; place = faultPlace n packet; transport = 0; destination = Nothing; class = 0; length = 0 }
 
 abbrev pub sending : ℕ → Named → Request → Sending
 sending zero l q = record {
   number = 0;
+  place = 0;
   transport = down l q .transport;
   destination = down l q .destination;
   class = q .class;
   length = length (q .packet);
 }
-sending (suc n) l q = notSent (suc n)
+sending (suc n) l q = notSent (suc n) (q .packet)
 
 unfoldable pub send : Table → Request → Sending
 send t q = sending (refusal (requestRules t q)) (named t (q .index)) q

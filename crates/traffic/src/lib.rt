@@ -36,9 +36,10 @@ pub struct RequestHead {
     pub neighbour: PerhapsMid,
 }
 
-// What an indication answers; what is written stands in the lent buffer.
+// What an indication answers; what is written stands in the lent buffer. The place is that of a fault in its packet.
 pub struct Reception {
     pub number: u8,
+    pub place: usize,
     pub link: PerhapsLink,
     pub length: usize,
     pub source: u64,
@@ -48,12 +49,14 @@ pub struct Reception {
 // What the question for the link of an indication answers, where no buffer is lent.
 pub struct Choice {
     pub number: u8,
+    pub place: usize,
     pub link: PerhapsLink,
 }
 
 // What a request answers: what goes down to GeoNetworking with its packet.
 pub struct Sending {
     pub number: u8,
+    pub place: usize,
     pub transport: u8,
     pub destination: Destination,
     pub class: u8,

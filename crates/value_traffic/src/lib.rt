@@ -23,6 +23,7 @@ pub fn link_of(t: Table, h: IndicationHead, packet: &[u8]) -> Choice
     if bad != replies::DONE {
         return Choice {
             number: bad,
+            place: ipv6::fault_place(bad, packet),
             link: PerhapsLink::Nothing,
         };
     }
@@ -30,6 +31,7 @@ pub fn link_of(t: Table, h: IndicationHead, packet: &[u8]) -> Choice
     let index = chosen.index;
     Choice {
         number: replies::DONE,
+        place: 0,
         link: PerhapsLink::Link(index),
     }
 }
@@ -39,7 +41,7 @@ pub fn indication(t: Table, h: IndicationHead, packet: &[u8], out: &mut [u8]) ->
 {
     let bad = arrives::choice_refusal(h, packet);
     if bad != replies::DONE {
-        return arrives::not_received(bad);
+        return arrives::not_received(bad, packet);
     }
     arrives::deliver(choice::chosen_for(t, h, packet), h, packet, out)
 }

@@ -38,8 +38,8 @@ returns-2 c =
     let done = delivered (args .link) x out enough in
     let w = frameOrPacket (args .link .kind) x in
     let room = room-for x (length out) (args .link .kind) (room-enough x (length out) enough) in
-    let reply-is : _≡_ {A = Reception} (record { number = 0; link = Link (args .link .index); length = wrote .result; source = args .h .source; class = args .h .class }) (deliverAs w x out (args .link .index) .reply) =
-    ap (λ n. record { number = 0; link = Link (args .link .index); length = n; source = args .h .source; class = args .h .class }) (wrote .ensures .0 ∙ put-length w out room) in (
+    let reply-is : _≡_ {A = Reception} (record { number = 0; place = 0; link = Link (args .link .index); length = wrote .result; source = args .h .source; class = args .h .class }) (deliverAs w x out (args .link .index) .reply) =
+    ap (λ n. record { number = 0; place = 0; link = Link (args .link .index); length = n; source = args .h .source; class = args .h .class }) (wrote .ensures .0 ∙ put-length w out room) in (
       reply-is ∙ sym (ap (λ (r : Received). r .reply) done),
       wrote .ensures .1 ∙ put-all w out room ∙ sym (ap (λ (r : Received). r .buffer) done),
     )

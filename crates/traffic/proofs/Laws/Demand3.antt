@@ -127,6 +127,7 @@ module _ (t u : Table) (w : Wider t u) where
         stopStays j k r s (on-first j r a) (on-second k s b) same
         (record {
           number = refl;
+          place = refl;
           frameLength = ap length w;
           source = refl;
           class = refl;
@@ -167,7 +168,7 @@ module _ (t u : Table) (w : Wider t u) where
     chosen true = topologicalStays refl (ap (λ (f : Interface). deliverAs (frameOrPacket (f .kind) x) x buffer (record { 0 = 0 })) (w .tvl))
     chosen false = lines (compare _ (line-area x)) (compare _ (line-destination x)) (compare _ (line-source x)) refl refl
 
-    outcome : (n : ℕ) → Follows t u x buffer (unless n buffer (First (choose (counted t) x))) (unless n buffer (Second (choose (counted u) x)))
+    outcome : (n : ℕ) → Follows t u x buffer (unless n x buffer (First (choose (counted t) x))) (unless n x buffer (Second (choose (counted u) x)))
     unfolding choose
     outcome zero = chosen (eqb (x .transport) 4)
     outcome (suc n) = refusesAlike (λ e. omega arith) refl refl

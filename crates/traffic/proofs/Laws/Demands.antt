@@ -11,7 +11,9 @@ use lib.Seq.{take-append-seam, drop-append-seam}
 use borrow.Author.Tests.{not-false}
 use Rattle.replies.specs.Rules.{refusal, Exact}
 use Rattle.replies.proofs.Laws.Refusals.{exact, done-exactly, none-right}
+use Rattle.ipv6.specs.Packet.{faultPlace, Placed}
 use Rattle.ipv6.specs.Identifier.{linkLocal}
+use Rattle.ipv6.proofs.Laws.Packet.{placed}
 use Rattle.links.specs.declared.LinkIndex.{LinkIndex}
 use Rattle.links.specs.declared.Named.{Named}
 use Rattle.links.specs.declared.PerhapsLink.{PerhapsLink}
@@ -36,14 +38,19 @@ use Rattle.traffic.proofs.Laws.Send.{request-numbered, interface-number
 module _ (t : Table) (x : Indication) (buffer : List ℕ) where
   -- what is answered, by the number of the refusal
   Given : ℕ → Received
-  Given n = unless n buffer (deliver t x buffer (choose (counted t) x))
+  Given n = unless n x buffer (deliver t x buffer (choose (counted t) x))
 
   number-given : (n : ℕ) → Given n .reply .number ≡ n
   unfolding Given
   number-given zero = refl
   number-given (suc n) = refl
 
-  refused-given : (n : ℕ) → Given n .reply .number ≢ 0 → Given n ≡ refuse n buffer
+  place-given : (n : ℕ) → Placed (x .packet) (Given n .reply .number) (Given n .reply .place)
+  unfolding Given faultPlace
+  place-given zero = placed (x .packet) 0
+  place-given (suc n) = placed (x .packet) (suc n)
+
+  refused-given : (n : ℕ) → Given n .reply .number ≢ 0 → Given n ≡ refuse n x buffer
   unfolding Given
   refused-given zero h = absurd (h refl)
   refused-given (suc n) h = refl
@@ -54,17 +61,23 @@ module _ (t : Table) (x : Indication) (buffer : List ℕ) where
       let n = refusal (indicationRules x (length buffer)) in
       record {
         exact = subst (Exact (indicationRules x (length buffer))) (sym (number-given n)) (exact (indicationRules x (length buffer)) (indication-numbered x (length buffer)));
+        place = place-given n;
         noLink = λ h. ap (λ (r : Received). r .reply .link) (refused-given n h);
         noLength = λ h. ap (λ (r : Received). r .reply .length) (refused-given n h);
         unchanged = λ h. ap (λ (r : Received). r .buffer) (refused-given n h);
       }
 
 module _ (t : Table) (x : Indication) where
-  number-chosen : (n : ℕ) (l : PerhapsLink) → choiceOr n l .number ≡ n
+  number-chosen : (n : ℕ) (l : PerhapsLink) → choiceOr n x l .number ≡ n
   number-chosen zero l = refl
   number-chosen (suc n) l = refl
 
-  none-chosen : (n : ℕ) (l : PerhapsLink) → choiceOr n l .number ≢ 0 → choiceOr n l .link ≡ NoLink
+  place-chosen : (n : ℕ) (l : PerhapsLink) → Placed (x .packet) (choiceOr n x l .number) (choiceOr n x l .place)
+  unfolding faultPlace
+  place-chosen zero l = placed (x .packet) 0
+  place-chosen (suc n) l = placed (x .packet) (suc n)
+
+  none-chosen : (n : ℕ) (l : PerhapsLink) → choiceOr n x l .number ≢ 0 → choiceOr n x l .link ≡ NoLink
   none-chosen zero l h = absurd (h refl)
   none-chosen (suc n) l h = refl
 
@@ -75,6 +88,7 @@ module _ (t : Table) (x : Indication) where
       let l = indexOf (choose (counted t) x) in
       record {
         exact = subst (Exact (choiceRules x)) (sym (number-chosen n l)) (exact (choiceRules x) (choice-numbered x));
+        place = place-chosen n l;
         noLink = none-chosen n l;
       }
 
@@ -82,6 +96,11 @@ module _ (l : Named) (q : Request) where
   number-sent : (n : ℕ) → sending n l q .number ≡ n
   number-sent zero = refl
   number-sent (suc n) = refl
+
+  place-sent : (n : ℕ) → Placed (q .packet) (sending n l q .number) (sending n l q .place)
+  unfolding faultPlace
+  place-sent zero = placed (q .packet) 0
+  place-sent (suc n) = placed (q .packet) (suc n)
 
   none-sent : (n : ℕ) → sending n l q .number ≢ 0 → sending n l q .length ≡ 0
   none-sent zero h = absurd (h refl)
@@ -94,6 +113,7 @@ refuses-request t q =
     let l = named t (q .index) in
     record {
       exact = subst (Exact (requestRules t q)) (sym (number-sent l q n)) (exact (requestRules t q) (request-numbered t q));
+      place = place-sent l q n;
       noLength = none-sent l q n;
     }
 
@@ -170,6 +190,7 @@ module _ (t : Table) where
           let foretold = sym (chosen-on t x e) in
           record {
             number = ap (λ (r : Received). r .reply .number) done ∙ ap (λ (r : Choice). r .number) foretold;
+            place = ap (λ (r : Received). r .reply .place) done ∙ ap (λ (r : Choice). r .place) foretold;
             link = ap (λ (r : Received). r .reply .link) done ∙ ap (λ (r : Choice). r .link) foretold;
           }
       go (suc n) e =
@@ -177,6 +198,7 @@ module _ (t : Table) where
           let foretold = sym (unchosen t x (suc n) (sym e) (λ z. omega arith)) in
           record {
             number = ap (λ (r : Received). r .reply .number) bad ∙ ap (λ (r : Choice). r .number) foretold;
+            place = ap (λ (r : Received). r .reply .place) bad ∙ ap (λ (r : Choice). r .place) foretold;
             link = ap (λ (r : Received). r .reply .link) bad ∙ ap (λ (r : Choice). r .link) foretold;
           }
 

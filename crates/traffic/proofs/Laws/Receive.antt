@@ -10,6 +10,7 @@ use lib.ListN.{length}
 use borrow.Author.Tests.{ltb-false, lt-ltb, le-ltb}
 use Rattle.replies.specs.Rules.{refusal}
 use Rattle.replies.proofs.Laws.Refusals.{Numbered, numbered-append, done-exactly, none-right, by-first, refusal-past}
+use Rattle.ipv6.specs.Packet.{faultPlace}
 use Rattle.ipv6.proofs.Laws.Packet.{packet-numbered}
 use Rattle.frames.specs.Frame.{frame}
 use Rattle.frames.proofs.Laws.Grow.{frame-length}
@@ -40,18 +41,18 @@ unfolding indicationRules
 indication-numbered x room = numbered-append (choiceRules x) (roomRules x room) (choice-numbered x) (room-numbered x room)
 
 module _ (t : Table) (x : Indication) (buffer : List ℕ) where
-  pub received-refused : (n : ℕ) → 0 < n → refusal (indicationRules x (length buffer)) ≡ n → receive t x buffer ≡ refuse n buffer
+  pub received-refused : (n : ℕ) → 0 < n → refusal (indicationRules x (length buffer)) ≡ n → receive t x buffer ≡ refuse n x buffer
   unfolding receive
   received-refused zero h e = absurd (omega arith)
-  received-refused (suc n) h e = ap (λ (m : ℕ). unless m buffer (deliver t x buffer (choose (counted t) x))) e
+  received-refused (suc n) h e = ap (λ (m : ℕ). unless m x buffer (deliver t x buffer (choose (counted t) x))) e
 
   pub received : refusal (indicationRules x (length buffer)) ≡ 0 → receive t x buffer ≡ deliver t x buffer (choose (counted t) x)
   unfolding receive
-  received e = ap (λ (m : ℕ). unless m buffer (deliver t x buffer (choose (counted t) x))) e
+  received e = ap (λ (m : ℕ). unless m x buffer (deliver t x buffer (choose (counted t) x))) e
 
 -- where a link is chosen, the rest is a delivery on it, whatever the layout of the table
 module _ (t : Table) (x : Indication) (buffer : List ℕ) where
-  pub received-unchosen : (n : ℕ) → n ≡ refusal (choiceRules x) → n ≢ 0 → receive t x buffer ≡ refuse n buffer
+  pub received-unchosen : (n : ℕ) → n ≡ refusal (choiceRules x) → n ≢ 0 → receive t x buffer ≡ refuse n x buffer
   unfolding indicationRules
   received-unchosen n e h =
       received-refused t x buffer n (omega arith) (sym (by-first (choiceRules x) (roomRules x (length buffer)) n e h))
@@ -59,19 +60,19 @@ module _ (t : Table) (x : Indication) (buffer : List ℕ) where
   pub received-on : refusal (choiceRules x) ≡ 0 → receive t x buffer ≡ deliverOn (chosenFor t x) x buffer
   unfolding receive deliverOn indicationRules
   received-on e =
-      ap (λ (m : ℕ). unless m buffer (deliver t x buffer (choose (counted t) x)))
+      ap (λ (m : ℕ). unless m x buffer (deliver t x buffer (choose (counted t) x)))
       (refusal-past (choiceRules x) (roomRules x (length buffer)) (choice-numbered x) e)
 
 -- the question for the link, by the number that its rules give
 module _ (t : Table) (x : Indication) where
-  pub unchosen : (n : ℕ) → n ≡ refusal (choiceRules x) → n ≢ 0 → choiceOf t x ≡ record { number = n; link = NoLink }
+  pub unchosen : (n : ℕ) → n ≡ refusal (choiceRules x) → n ≢ 0 → choiceOf t x ≡ record { number = n; place = faultPlace n (x .packet); link = NoLink }
   unfolding choiceOf
   unchosen zero e h = absurd (h refl)
-  unchosen (suc n) e h = ap (λ (m : ℕ). choiceOr m (indexOf (choose (counted t) x))) (sym e)
+  unchosen (suc n) e h = ap (λ (m : ℕ). choiceOr m x (indexOf (choose (counted t) x))) (sym e)
 
-  pub chosen-on : refusal (choiceRules x) ≡ 0 → choiceOf t x ≡ record { number = 0; link = indexOf (choose (counted t) x) }
+  pub chosen-on : refusal (choiceRules x) ≡ 0 → choiceOf t x ≡ record { number = 0; place = 0; link = indexOf (choose (counted t) x) }
   unfolding choiceOf
-  chosen-on e = ap (λ (m : ℕ). choiceOr m (indexOf (choose (counted t) x))) e
+  chosen-on e = ap (λ (m : ℕ). choiceOr m x (indexOf (choose (counted t) x))) e
 
 -- room is asked last
 pub room-left : (x : Indication) (room : ℕ) → refusal (indicationRules x room) ≡ 0 → refusal (roomRules x room) ≡ 0
@@ -86,14 +87,14 @@ room-enough x room h = rw (le-ltb room (length (x .packet) + 14) h)
 
 -- a delivery, with too little room and with enough
 module _ (c : Chosen) (x : Indication) (buffer : List ℕ) where
-  pub delivered-short : length buffer < length (x .packet) + 14 → deliverOn c x buffer ≡ refuse 13 buffer
+  pub delivered-short : length buffer < length (x .packet) + 14 → deliverOn c x buffer ≡ refuse 13 x buffer
   unfolding deliverOn roomRules
   delivered-short h = rw (lt-ltb (length buffer) (length (x .packet) + 14) h)
 
   pub delivered : length (x .packet) + 14 ≤ length buffer → deliverOn c x buffer ≡ deliverAs (frameOrPacket (c .kind) x) x buffer (c .index)
   unfolding deliverOn
   delivered h =
-      ap (λ (n : ℕ). unless n buffer (deliverAs (frameOrPacket (c .kind) x) x buffer (c .index))) (room-enough x (length buffer) h)
+      ap (λ (n : ℕ). unless n x buffer (deliverAs (frameOrPacket (c .kind) x) x buffer (c .index))) (room-enough x (length buffer) h)
 
 -- a frame is 14 bytes longer than its packet, and that much room there is
 pub room-for : (x : Indication) (room kind : ℕ) → refusal (roomRules x room) ≡ 0 → length (frameOrPacket kind x) ≤ room

@@ -37,17 +37,17 @@ unfolding interfaceRules
 interface-numbered enabled = (lit< tt, tt)
 
 -- what is sent on a link, by the number that the rules give
-pub sending-refused : (l : Named) (q : Request) (m n : ℕ) → 0 < n → m ≡ n → sending m l q ≡ notSent n
+pub sending-refused : (l : Named) (q : Request) (m n : ℕ) → 0 < n → m ≡ n → sending m l q ≡ notSent n (q .packet)
 sending-refused l q m zero h e = absurd (omega arith)
 sending-refused l q m (suc n) h e = ap (λ (k : ℕ). sending k l q) e
 
 pub sending-done : (l : Named) (q : Request) (m : ℕ) → m ≡ 0
-    → sending m l q ≡ record { number = 0; transport = down l q .transport; destination = down l q .destination; class = q .class; length = length (q .packet) }
+    → sending m l q ≡ record { number = 0; place = 0; transport = down l q .transport; destination = down l q .destination; class = q .class; length = length (q .packet) }
 sending-done l q m e = ap (λ (k : ℕ). sending k l q) e
 
 -- a request on a link, step by step
 module _ (l : Named) (q : Request) where
-  pub on-disabled : l .enabled ≡ false → sendOn l q ≡ notSent 7
+  pub on-disabled : l .enabled ≡ false → sendOn l q ≡ notSent 7 (q .packet)
   unfolding sendOn linkRules
   on-disabled e = rw e
 
@@ -55,7 +55,7 @@ module _ (l : Named) (q : Request) where
   unfolding linkRules
   on-enabled on = refusal-next (7 if not (l .enabled) then []) (packetRules (q .packet) ++ resolveRules l q) (ap not on, tt)
 
-  pub on-bad-packet : (n : ℕ) → l .enabled ≡ true → n ≡ refusal (packetRules (q .packet)) → n ≢ 0 → sendOn l q ≡ notSent n
+  pub on-bad-packet : (n : ℕ) → l .enabled ≡ true → n ≡ refusal (packetRules (q .packet)) → n ≢ 0 → sendOn l q ≡ notSent n (q .packet)
   unfolding sendOn
   on-bad-packet n on e h =
       sending-refused l q (refusal (linkRules l q)) n (omega arith) (on-enabled on ∙ sym (by-first (packetRules (q .packet)) (resolveRules l q) n e h))
@@ -66,7 +66,7 @@ module _ (l : Named) (q : Request) where
       ap (λ (m : ℕ). sending m l q) (on-enabled on ∙ refusal-past (packetRules (q .packet)) (resolveRules l q) (packet-numbered (q .packet)) e)
 
   module _ (many : multicast (destination (q .packet)) ≡ true) where
-    pub many-without-area : (eqb (q .index .0) 1 && isUnset (l .area)) ≡ true → sending (refusal (resolveRules l q)) l q ≡ notSent 11
+    pub many-without-area : (eqb (q .index .0) 1 && isUnset (l .area)) ≡ true → sending (refusal (resolveRules l q)) l q ≡ notSent 11 (q .packet)
     unfolding resolveRules
     many-without-area e = rw (many, e)
 
@@ -79,7 +79,7 @@ module _ (l : Named) (q : Request) where
     many-down = rw many
 
   module _ (one : multicast (destination (q .packet)) ≡ false) where
-    pub one-unknown : neighbourOf (l .interface) (q .neighbour) (q .packet) ≡ Unknown → sending (refusal (resolveRules l q)) l q ≡ notSent 12
+    pub one-unknown : neighbourOf (l .interface) (q .neighbour) (q .packet) ≡ Unknown → sending (refusal (resolveRules l q)) l q ≡ notSent 12 (q .packet)
     unfolding resolveRules
     one-unknown e = rw (one, e)
 
@@ -88,13 +88,13 @@ module _ (l : Named) (q : Request) where
     one-down = rw one
 
     pub one-sent : (m : ℕ) → neighbourOf (l .interface) (q .neighbour) (q .packet) ≡ Known m
-        → sending (refusal (resolveRules l q)) l q ≡ record { number = 0; transport = 1; destination = Mid m; class = q .class; length = length (q .packet) }
+        → sending (refusal (resolveRules l q)) l q ≡ record { number = 0; place = 0; transport = 1; destination = Mid m; class = q .class; length = length (q .packet) }
     unfolding resolveRules
     one-sent m e = rw (one, e) (rw (one-down, e))
 
 -- its values are asked first, and then what the link decides
 module _ (l : Named) (q : Request) where
-  pub named-refused : (n : ℕ) → n ≡ refusal (requestValues q) → n ≢ 0 → sendNamed l q ≡ notSent n
+  pub named-refused : (n : ℕ) → n ≡ refusal (requestValues q) → n ≢ 0 → sendNamed l q ≡ notSent n (q .packet)
   unfolding sendNamed
   named-refused n e h =
       sending-refused l q (refusal (requestValues q ++ linkRules l q)) n (omega arith) (sym (by-first (requestValues q) (linkRules l q) n e h))
