@@ -4,9 +4,8 @@ use mathlib.Core.Path.{_≡_}
 use mathlib.Core.Bool.{Bool, true, false}
 use mathlib.Core.List.{List, [], _∷_, _++_}
 use lib.IntN.{pos}
-use lib.ListN.{take, replicate}
+use lib.ListN.{take, drop, replicate}
 use Rattle.octets.specs.Digits.{digits}
-use Rattle.replies.specs.Rules.{refusal}
 use Rattle.area.specs.declared.Area.{Area}
 use Rattle.area.specs.Area.{goodArea}
 use Rattle.prefix.specs.Prefix.{noPrefix}
@@ -15,11 +14,16 @@ use Rattle.links.specs.declared.PerhapsLink.the-variants.{Link, Nothing}
 use Rattle.links.specs.declared.Reply.{Reply}
 use Rattle.links.specs.declared.Settings.{Settings}
 use Rattle.links.specs.declared.Table.{Table}
+use Rattle.links.specs.Slots.{tvlIndex}
 use Rattle.links.specs.Calls.{TableCall, enable, disable, reply, startByValue, plain}
 use Rattle.ipv6.specs.declared.PerhapsMid.{PerhapsMid}
 use Rattle.ipv6.specs.declared.PerhapsMid.the-variants.{Mid, Nothing as NoMid}
-use Rattle.ipv6.specs.Packet.{packetRules}
 use Rattle.ipv6.specs.Identifier.{linkLocal, midOf}
+use Rattle.traffic.specs.declared.Destination.the-variants.{Nothing as NoDestination}
+use Rattle.traffic.specs.declared.Reception.{Reception}
+use Rattle.traffic.specs.declared.Sending.{Sending}
+use Rattle.traffic.specs.Arrives.{receive}
+use Rattle.traffic.specs.Leaves.{send}
 
 pub record Row : Type 0 where
   pub got : List ℕ
@@ -60,9 +64,36 @@ packet n =
     ++ 1 ∷ 0xff ∷ 2 ∷ replicate 13 0
     ++ 1 ∷ replicate (n - 40) 0)
 
+-- another version; another length field, which fits no packet here; the source ::1
+abbrev pub versionFive : List ℕ → List ℕ
+versionFive p = 0x50 ∷ drop 1 p
+
+abbrev pub wrongLength : List ℕ → List ℕ
+wrongLength p = take 4 p ++ 0xff ∷ 0xff ∷ drop 6 p
+
+abbrev pub fromLoopback : List ℕ → List ℕ
+fromLoopback p = take 8 p ++ replicate 15 0 ++ 1 ∷ drop 24 p
+
 -- a start with a maximum, and fixed links of kind 1 and flag 1
 abbrev pub startWith : ℕ → Reply
 startWith max = startByValue (record { own = 1; max = max; tvl = plain; dgvl = plain })
+
+-- a packet that arrives by TSB, where room is lent for every packet, and one that leaves on the TVL
+abbrev pub arriving : List ℕ → Reception
+arriving p =
+    receive (startWith 65 .table) (record { transport = 4; source = 2; class = 0; destination = NoDestination; packet = p }) (replicate 1294 0) .reply
+
+abbrev pub leaving : List ℕ → Sending
+leaving p = send (startWith 65 .table) (record { index = tvlIndex; class = 0; neighbour = NoMid; packet = p })
+
+-- number and place of both
+abbrev pub answered : List ℕ → List ℕ
+answered p = arriving p .number ∷ arriving p .place ∷ leaving p .number ∷ leaving p .place ∷ []
+
+-- which are the same
+infix 19 _at_
+abbrev pub _at_ : ℕ → ℕ → List ℕ
+number at place = number ∷ place ∷ number ∷ place ∷ []
 
 abbrev pub indexOrZero : PerhapsLink → ℕ
 indexOrZero (Link i) = i .0
@@ -99,11 +130,20 @@ rows =
     ∷ (says (goodArea (shaped 1 1 360)) is 0)
     ∷ (says (goodArea (shaped 2 0 0)) is 0)
     ∷ (says (goodArea (shaped 0 0 0)) is 1)
-    -- edge-packet: 39, 40, 1,280 and 1,281 bytes: 8, good, good, 9
-    ∷ (refusal (packetRules (packet 39)) is 8)
-    ∷ (refusal (packetRules (packet 40)) is 0)
-    ∷ (refusal (packetRules (packet 1280)) is 0)
-    ∷ (refusal (packetRules (packet 1281)) is 9)
+    -- edge-packet: 39, 40, 1,280 and 1,281 bytes: 20 at 39, good, good, 9
+    ∷ (answered (packet 39) are 20 at 39)
+    ∷ (answered (packet 40) are 0 at 0)
+    ∷ (answered (packet 1280) are 0 at 0)
+    ∷ (answered (packet 1281) are 9 at 0)
+    -- edge-part: which part is bad, and where; the first of several
+    ∷ (answered (packet 0) are 20 at 0)
+    ∷ (answered (versionFive (packet 39)) are 20 at 39)
+    ∷ (answered (versionFive (packet 40)) are 21 at 0)
+    ∷ (answered (wrongLength (packet 40)) are 22 at 4)
+    ∷ (answered (versionFive (wrongLength (packet 40))) are 21 at 0)
+    ∷ (answered (wrongLength (fromLoopback (packet 40))) are 22 at 4)
+    ∷ (answered (fromLoopback (packet 40)) are 10 at 0)
+    ∷ (answered (versionFive (wrongLength (fromLoopback (packet 1281)))) are 9 at 0)
     ∷ []
 
 unfoldable pub Edges : Type 0

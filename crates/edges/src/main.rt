@@ -1,14 +1,17 @@
 // RULES, Cases at the edges: those not marked *, each printed with what is expected and what came. The twin prints the
 // same lines from its own code.
 use area::Area;
+use ipv6::PerhapsMid;
 use libc::STDOUT_FILENO;
 use links::Interface;
+use links::LinkIndex;
 use links::PerhapsLink;
 use links::Settings;
 use links::StartValues;
 use links::Table;
 use traffic::Destination;
 use traffic::IndicationHead;
+use traffic::RequestHead;
 
 fn print(text: &[u8]) {
     io::write_all(STDOUT_FILENO, text);
@@ -129,8 +132,56 @@ fn buffer_of_packet_and_13() {
     }
 }
 
+fn print_place(expected: &[u8], number: u8, place: usize) {
+    print(expected);
+    print(b" got ");
+    io::print_decimal(STDOUT_FILENO, number as u64);
+    print(b" at ");
+    io::print_decimal(STDOUT_FILENO, place as u64);
+    print(b"\n");
+}
+
+// A bad packet, as an indication by TSB and as a request on the TVL.
+fn bad_packet(fault: &[u8], expected: &[u8], packet: &[u8]) {
+    let mut buffer = [0u8; 1294];
+    let h = from_two(traffic::TSB, Destination::Nothing);
+    let received = value_traffic::indication(with_one_stop(), h, packet, &mut buffer);
+    print(b"indication ");
+    print(fault);
+    print_place(expected, received.number, received.place);
+    let q = RequestHead {
+        index: LinkIndex::TVL,
+        class: 0,
+        neighbour: PerhapsMid::Nothing,
+    };
+    let sent = value_traffic::request(with_one_stop(), q, packet);
+    print(b"request ");
+    print(fault);
+    print_place(expected, sent.number, sent.place);
+}
+
+fn parts_that_are_bad() {
+    let p = packet();
+    bad_packet(
+        b"of 39 bytes",
+        b": expected 20 at 39",
+        octets::part(&p, 0, 39),
+    );
+    let mut version_five = packet();
+    version_five[0] = 0x50;
+    bad_packet(b"of version 5", b": expected 21 at 0", &version_five);
+    let mut too_large = packet();
+    too_large[5] = 1;
+    bad_packet(
+        b"with the length field one too large",
+        b": expected 22 at 4",
+        &too_large,
+    );
+}
+
 fn main() {
     second_stop();
     broadcast_beside_the_stop();
     buffer_of_packet_and_13();
+    parts_that_are_bad();
 }
