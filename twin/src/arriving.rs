@@ -34,8 +34,9 @@ pub struct Delivery {
 }
 
 impl Table {
-    /// `indication-refusals`: 1, 2, 9, 8, 10, 13. A refusal leaves the buffer as
-    /// it was (`refusal-leaves`).
+    /// `indication-refusals`: 1, 2, 9, 20, 21, 22, 10, 13. A refusal leaves the
+    /// buffer as it was (`refusal-leaves`); its place is
+    /// [`fault_place`](crate::packet::fault_place).
     pub fn indication(
         &self,
         indication: &Indication,

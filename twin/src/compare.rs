@@ -6,7 +6,8 @@ use std::time::Duration;
 
 use crate::generate::day_file;
 use crate::generate::random::Random;
-use crate::listing::{lines, print};
+use crate::listing::{lines, print, RecordKind};
+use crate::orders::Counts;
 use crate::pairs::{allowed_pairs, name_of_kind, Seen};
 use crate::program::{self, Feeding};
 
@@ -79,7 +80,7 @@ fn number_of(name: &str, value: Option<&String>) -> Result<u64, String> {
     text.parse().map_err(|_| format!("{name} needs a number, not {text}"))
 }
 
-/// Files and pairs that passed and failed.
+/// Files, pairs and situations that passed and failed.
 #[derive(Default)]
 struct Score {
     passed: u64,
@@ -93,17 +94,26 @@ impl Score {
             false => self.failed += 1,
         }
     }
+
+    /// Prints how often something was seen; never is a failure.
+    fn count_seen(&mut self, what: &str, count: u64) {
+        let note = if count == 0 { "  NOT SEEN" } else { "" };
+        println!("{what} {count:>9}{note}");
+        self.count(count > 0);
+    }
 }
 
 /// Runs the comparison and prints its report; true if nothing failed.
 pub fn run(options: &Options) -> bool {
     let mut score = Score::default();
     let mut seen = Seen::default();
+    let mut counts = Counts::default();
     let mut files = 0;
     while files < options.files && score.failed < MOST_FAILURES {
         let input = day_file(options.seed, files);
         let own_lines = lines(&input);
         seen.add(&own_lines);
+        counts.add(&input);
         let outcome = agree(options, files, &input, &print(&own_lines));
         if let Err(difference) = &outcome {
             tell_failure(options.seed, files, &input, difference);
@@ -116,6 +126,7 @@ pub fn run(options: &Options) -> bool {
     }
     println!("seed {}, {} files, {} records listed", options.seed, files, seen.records());
     report_pairs(&seen, &mut score);
+    report_situations(&counts, &mut score);
     println!("{} passed, {} failed", score.passed, score.failed);
     score.failed == 0
 }
@@ -170,14 +181,20 @@ fn tell_failure(seed: u64, number: u64, input: &[u8], difference: &str) {
 fn report_pairs(seen: &Seen, score: &mut Score) {
     println!("{:<16} {:>5} {:>9}", "record", "reply", "count");
     for (kind, reply) in allowed_pairs() {
-        let count = seen.count((kind, reply));
-        let note = if count == 0 { "  NOT SEEN" } else { "" };
-        println!("{:<16} {reply:>5} {count:>9}{note}", name_of_kind(kind));
-        score.count(count > 0);
+        let what = format!("{:<16} {reply:>5}", name_of_kind(kind));
+        score.count_seen(&what, seen.count((kind, reply)));
     }
     for (kind, reply) in seen.not_allowed() {
         println!("{:<16} {reply:>5}  NOT ALLOWED by the rules", name_of_kind(kind));
         score.count(false);
+    }
+}
+
+fn report_situations(counts: &Counts, score: &mut Score) {
+    println!("{:<16} {:<28} {:>9}", "record", "reply over another, or cause", "count");
+    for (situation, count) in counts.rows() {
+        let kind = name_of_kind(RecordKind::Known(situation.kind));
+        score.count_seen(&format!("{kind:<16} {:<28}", situation.name()), *count);
     }
 }
 

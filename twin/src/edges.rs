@@ -4,13 +4,15 @@
 use crate::area::{Area, RECTANGLE};
 use crate::arriving::Indication;
 use crate::call::{Destination, GEO_BROADCAST, TSB};
+use crate::leaving::Request;
 use crate::link::InterfaceNumbers;
+use crate::packet::fault_place;
 use crate::prefix::{Prefix, NO_PREFIX};
 use crate::reply::{Refusal, DONE};
-use crate::table::{StartSettings, StopSettings, Table, DGVL};
+use crate::table::{StartSettings, StopSettings, Table, DGVL, TVL};
 
 pub struct Case {
-    pub name: &'static str,
+    pub name: String,
     pub expected: String,
     pub got: String,
 }
@@ -26,7 +28,13 @@ impl Case {
 }
 
 pub fn cases() -> Vec<Case> {
-    vec![second_stop_at_maximum_2(), broadcast_beside_the_only_stop(), buffer_of_packet_and_13()]
+    let mut cases = vec![
+        second_stop_at_maximum_2(),
+        broadcast_beside_the_only_stop(),
+        buffer_of_packet_and_13(),
+    ];
+    cases.extend(places_of_bad_packets());
+    cases
 }
 
 const LAN: InterfaceNumbers = InterfaceNumbers { kind: 1, flag: 1 };
@@ -52,6 +60,10 @@ fn packet() -> Vec<u8> {
     packet
 }
 
+fn tsb(packet: &[u8]) -> Indication<'_> {
+    Indication { transport: TSB, source: 2, class: 0, destination: Destination::Nothing, packet }
+}
+
 fn number_of<T>(outcome: Result<T, Refusal>) -> u8 {
     outcome.map_or_else(Refusal::number, |_| DONE)
 }
@@ -67,7 +79,7 @@ fn second_stop_at_maximum_2() -> Case {
     };
     let outcome = table_with_one_stop().enable(&second);
     Case {
-        name: "second stop link at maximum 2",
+        name: "second stop link at maximum 2".to_string(),
         expected: Refusal::NoIndexFree.number().to_string(),
         got: number_of(outcome).to_string(),
     }
@@ -91,7 +103,7 @@ fn broadcast_beside_the_only_stop() -> Case {
         Err(refusal) => format!("reply {}", refusal.number()),
     };
     Case {
-        name: "broadcast to a rectangle with the angle one off",
+        name: "broadcast to a rectangle with the angle one off".to_string(),
         expected: format!("link {DGVL}"),
         got,
     }
@@ -100,22 +112,59 @@ fn broadcast_beside_the_only_stop() -> Case {
 /// `edge-room`: a buffer of packet + 13 is 13, and stays unchanged.
 fn buffer_of_packet_and_13() -> Case {
     let packet = packet();
-    let indication = Indication {
-        transport: TSB,
-        source: 2,
-        class: 0,
-        destination: Destination::Nothing,
-        packet: &packet,
-    };
+    let indication = tsb(&packet);
     let before = vec![0x5A; packet.len() + 13];
     let mut buffer = before.clone();
     let outcome = table_with_one_stop().indication(&indication, &mut buffer);
     let state = if buffer == before { "unchanged" } else { "changed" };
     Case {
-        name: "buffer of packet + 13",
+        name: "buffer of packet + 13".to_string(),
         expected: format!("{} unchanged", Refusal::NoRoom.number()),
         got: format!("{} {state}", number_of(outcome)),
     }
+}
+
+/// `edge-place`: an indication and a request with a packet of 39 bytes are 20 at
+/// place 39; of version 5, 21 at place 0; with the length field one too large, 22
+/// at place 4.
+fn places_of_bad_packets() -> Vec<Case> {
+    let (mut short, mut version, mut field) = (packet(), packet(), packet());
+    short.truncate(39);
+    version[0] = 0x50;
+    field[5] = 1;
+    let cases = [
+        received_and_sent("of 39 bytes", &short, Refusal::PacketShort, 39),
+        received_and_sent("of version 5", &version, Refusal::VersionNot6, 0),
+        received_and_sent(
+            "with the length field one too large",
+            &field,
+            Refusal::LengthFieldWrong,
+            4,
+        ),
+    ];
+    cases.into_iter().flatten().collect()
+}
+
+/// The packet in an indication, and in a request on the TVL.
+fn received_and_sent(what: &str, packet: &[u8], refusal: Refusal, place: usize) -> [Case; 2] {
+    let table = table_with_one_stop();
+    let indicated = table.indication(&tsb(packet), &mut [0; 1_294]);
+    let request = Request { index: TVL, class: 0, neighbour: None, packet };
+    let requested = table.request(&request);
+    [
+        ("indication", number_and_place(indicated, packet)),
+        ("request", number_and_place(requested, packet)),
+    ]
+    .map(|(call, got)| Case {
+        name: format!("{call} {what}"),
+        expected: format!("{} at {place}", refusal.number()),
+        got,
+    })
+}
+
+fn number_and_place<T>(outcome: Result<T, Refusal>, packet: &[u8]) -> String {
+    let place = outcome.as_ref().map_or_else(|refusal| fault_place(*refusal, packet), |_| 0);
+    format!("{} at {place}", number_of(outcome))
 }
 
 #[cfg(test)]
@@ -123,9 +172,9 @@ mod tests {
     use super::*;
 
     #[test]
-    fn all_three_agree() {
+    fn all_nine_agree() {
         let cases = cases();
-        assert_eq!(cases.len(), 3);
+        assert_eq!(cases.len(), 9);
         for case in cases {
             assert!(case.agrees(), "{}", case.line());
         }

@@ -25,7 +25,8 @@ pub struct Sending {
 }
 
 impl Table {
-    /// `request-refusals`: 1, 7, 9, 8, 10, 11, 12.
+    /// `request-refusals`: 1, 7, 9, 20, 21, 22, 10, 11, 12. The place of a refusal
+    /// is [`fault_place`](crate::packet::fault_place).
     pub fn request(&self, request: &Request) -> Result<Sending, Refusal> {
         if let Some(mid) = request.neighbour {
             // Even where it would not be used.

@@ -21,7 +21,9 @@ pub mod requests;
 pub mod write;
 
 pub mod compare;
+pub mod conditions;
 pub mod edges;
 pub mod generate;
+pub mod orders;
 pub mod pairs;
 pub mod program;

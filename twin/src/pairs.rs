@@ -24,8 +24,8 @@ const REPLIES_OF_KIND: [(u64, &[u8]); 7] = [
     (kind::DISABLE, &[0, 7, 14, 15, 16]),
     (kind::DGVL_AREA, &[0, 2, 14, 16]),
     (kind::OWN_MID, &[0, 1, 14, 16]),
-    (kind::INDICATION, &[0, 1, 2, 8, 9, 10, 14, 16]),
-    (kind::REQUEST, &[0, 1, 7, 8, 9, 10, 11, 12, 14, 16]),
+    (kind::INDICATION, &[0, 1, 2, 9, 10, 14, 16, 20, 21, 22]),
+    (kind::REQUEST, &[0, 1, 7, 9, 10, 11, 12, 14, 16, 20, 21, 22]),
 ];
 
 /// A first number outside 1..7, or one that is no number (overlong, above
@@ -88,7 +88,7 @@ mod tests {
     #[test]
     fn the_number_of_allowed_pairs() {
         let pairs = allowed_pairs();
-        assert_eq!(pairs.len(), 4 + 9 + 5 + 4 + 4 + 8 + 10 + 2);
+        assert_eq!(pairs.len(), 4 + 9 + 5 + 4 + 4 + 10 + 12 + 2);
         assert!(pairs.iter().all(|&(_, reply)| reply != 13));
     }
 

@@ -15,8 +15,6 @@ pub enum Refusal {
     PrefixOverlapsAStops = 5,
     NoIndexFree = 6,
     NoEnabledLink = 7,
-    /// Under 40 bytes, version not 6, or a length field that does not fit.
-    PacketNotIpv6 = 8,
     PacketAbove1280 = 9,
     AddressNotAllowed = 10,
     MulticastWithoutArea = 11,
@@ -28,10 +26,49 @@ pub enum Refusal {
     IndexOfFixedLink = 15,
     /// Record before the start record, or a second start record.
     StartOutOfPlace = 16,
+    /// Packet under 40 bytes.
+    PacketShort = 20,
+    VersionNot6 = 21,
+    /// Payload length field + 40 is not the packet's length.
+    LengthFieldWrong = 22,
 }
 
 impl Refusal {
     pub fn number(self) -> u8 {
         self as u8
+    }
+}
+
+/// Every refusal, in the order of the numbers.
+#[cfg(test)]
+pub const EVERY_REFUSAL: [Refusal; 18] = [
+    Refusal::ValueOutsideItsList,
+    Refusal::AreaNotGood,
+    Refusal::PrefixNotGood,
+    Refusal::AreaEqualToAStops,
+    Refusal::PrefixOverlapsAStops,
+    Refusal::NoIndexFree,
+    Refusal::NoEnabledLink,
+    Refusal::PacketAbove1280,
+    Refusal::AddressNotAllowed,
+    Refusal::MulticastWithoutArea,
+    Refusal::NeighbourNotResolvable,
+    Refusal::NoRoom,
+    Refusal::RecordBroken,
+    Refusal::IndexOfFixedLink,
+    Refusal::StartOutOfPlace,
+    Refusal::PacketShort,
+    Refusal::VersionNot6,
+    Refusal::LengthFieldWrong,
+];
+
+#[cfg(test)]
+mod tests {
+    use super::*;
+
+    #[test]
+    fn the_numbers_of_the_rules() {
+        let numbers = EVERY_REFUSAL.map(Refusal::number);
+        assert_eq!(numbers, [1, 2, 3, 4, 5, 6, 7, 9, 10, 11, 12, 13, 14, 15, 16, 20, 21, 22]);
     }
 }

@@ -8,8 +8,7 @@ use crate::call::{Call, Destination};
 use crate::leaving::{Request, Sending};
 use crate::listing::up_to_the_limit;
 use crate::mid::mac_bytes;
-use crate::read::read_record;
-use crate::replay::Replay;
+use crate::replay::{for_each_call, Replay};
 use crate::reply::{Refusal, DONE};
 
 const HEADER: &str = "rec ans transport destination class n";
@@ -23,17 +22,14 @@ pub struct Sent {
 
 /// One for each whole request record, up to the first broken record.
 pub fn requests(input: &[u8]) -> Vec<Sent> {
-    let bytes = up_to_the_limit(input);
     let mut sent = Vec::new();
-    let mut replay = Replay::default();
-    let (mut record, mut offset) = (1, 0);
-    while let Ok((call, behind)) = read_record(bytes, offset) {
+    let mut record = 0;
+    for_each_call(up_to_the_limit(input), |replay, call| {
+        record += 1;
         if let Call::Request(request) = call {
-            sent.push(Sent { record, outcome: ask(&replay, &request) });
+            sent.push(Sent { record, outcome: ask(replay, request) });
         }
-        replay.call(&call);
-        (record, offset) = (record + 1, behind);
-    }
+    });
     sent
 }
 

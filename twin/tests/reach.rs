@@ -1,5 +1,6 @@
-//! What the generated day files reach: every allowed pair, and the situations
-//! within a pair that a listing could get wrong.
+//! What the generated day files reach: every allowed pair, every order of
+//! refusals and cause of one, and the situations within a pair that a listing
+//! could get wrong.
 
 use std::collections::BTreeMap;
 
@@ -8,6 +9,7 @@ use twin::call::{Call, Destination, TSB};
 use twin::generate::day_file;
 use twin::leaving::Request;
 use twin::listing::{lines, MOST_INPUT};
+use twin::orders::Counts;
 use twin::pairs::{allowed_pairs, Seen};
 use twin::read::read_record;
 use twin::replay::{Answer, Replay};
@@ -130,6 +132,18 @@ fn the_files_reach_every_allowed_pair_and_no_other() {
             allowed_pairs().into_iter().filter(|&pair| seen.count(pair) == 0).collect();
         assert!(missing.is_empty(), "seed {seed}: {missing:?}");
         assert!(seen.not_allowed().is_empty());
+    }
+}
+
+#[test]
+fn the_files_reach_every_order_and_cause() {
+    for seed in [1, 2, u64::MAX] {
+        let mut counts = Counts::default();
+        (0..FILES).for_each(|number| counts.add(&day_file(seed, number)));
+        for (situation, count) in counts.rows() {
+            let (kind, name) = (situation.kind, situation.name());
+            assert!(*count > 0, "seed {seed}, kind {kind}: {name}");
+        }
     }
 }
 

@@ -2,7 +2,7 @@ use super::*;
 use crate::area::{CIRCLE, RECTANGLE};
 use crate::link::InterfaceNumbers;
 use crate::mid::LARGEST_MID;
-use crate::packet::{LOOPBACK, UNSPECIFIED};
+use crate::packet::{fault_place, LOOPBACK, UNSPECIFIED};
 use crate::prefix::{Prefix, NO_PREFIX};
 use crate::reply::Refusal::*;
 use crate::table::{StartSettings, StopSettings};
@@ -206,9 +206,12 @@ fn reply_1() {
 #[test]
 fn refusals_come_in_order() {
     let long = [0; 1_281];
-    let mut wrong = packet(LOOPBACK, LOOPBACK);
-    let loopback = wrong.clone();
-    wrong[0] = 0x50;
+    let loopback = packet(LOOPBACK, LOOPBACK);
+    let mut wrong_field = loopback.clone();
+    wrong_field[5] = 1;
+    let mut wrong_version = wrong_field.clone();
+    wrong_version[0] = 0x50;
+    let short = &wrong_version[..39];
     let bad_area = Area { angle: 360, ..AREA };
     for transport in [GEO_ANYCAST, GEO_BROADCAST] {
         let bad = Indication { transport, ..to_area(bad_area, &long) };
@@ -216,9 +219,67 @@ fn refusals_come_in_order() {
         assert_refused(&bad, 0, AreaNotGood);
     }
     assert_refused(&to_area(AREA, &long), 0, PacketAbove1280);
-    assert_refused(&to_area(AREA, &wrong), 0, PacketNotIpv6);
+    assert_refused(&to_area(AREA, short), 0, PacketShort);
+    assert_refused(&to_area(AREA, &wrong_version), 0, VersionNot6);
+    assert_refused(&to_area(AREA, &wrong_field), 0, LengthFieldWrong);
     assert_refused(&to_area(AREA, &loopback), 0, AddressNotAllowed);
     assert_refused(&to_area(AREA, &packet(address(2), address(2))), 0, NoRoom);
+}
+
+#[test]
+fn values_and_area_are_judged_before_each_bad_packet() {
+    for (bad, _) in bad_packets() {
+        let bad_area = Area { angle: 360, ..AREA };
+        assert_refused(&Indication { source: u64::MAX, ..tsb(&bad) }, 1_294, ValueOutsideItsList);
+        assert_refused(&to_area(bad_area, &bad), 1_294, AreaNotGood);
+    }
+}
+
+#[test]
+fn a_bad_packet_is_refused_on_each_transport_and_leaves_the_buffer() {
+    for (bad, refusal) in bad_packets() {
+        let anycast = Indication { transport: GEO_ANYCAST, ..to_area(AREA, &bad) };
+        for indication in [unicast(&bad), anycast, to_area(AREA, &bad), tsb(&bad)] {
+            for room in [0, bad.len() + 13, bad.len() + 14, 1_294] {
+                assert_refused(&indication, room, refusal);
+            }
+        }
+    }
+}
+
+#[test]
+fn the_place_of_each_short_packet_and_each_version() {
+    let good = packet(address(0x40), address(0x30));
+    let refused = |packet: &[u8]| {
+        let refusal = table().indication(&tsb(packet), &mut [0; 1_294]).unwrap_err();
+        (refusal.number(), fault_place(refusal, packet))
+    };
+    for length in 0..40 {
+        assert_eq!(refused(&good[..length]), (20, length));
+    }
+    for version in (0..16).filter(|&version| version != 6) {
+        let mut wrong = good.clone();
+        wrong[0] = version << 4;
+        assert_eq!(refused(&wrong), (21, 0));
+        assert_eq!(refused(&wrong[..39]), (20, 39));
+    }
+}
+
+/// A packet for each reply of `packet-refusals`.
+fn bad_packets() -> Vec<(Vec<u8>, Refusal)> {
+    let good = packet(address(0x40), address(0x30));
+    let (mut long, mut version, mut field) = (good.clone(), good.clone(), good.clone());
+    long.resize(1_281, 0);
+    version[0] = 0x50;
+    field[5] = 1;
+    vec![
+        (long, PacketAbove1280),
+        (good[..39].to_vec(), PacketShort),
+        (Vec::new(), PacketShort),
+        (version, VersionNot6),
+        (field, LengthFieldWrong),
+        (packet(LOOPBACK, address(0x30)), AddressNotAllowed),
+    ]
 }
 
 #[test]

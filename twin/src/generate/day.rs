@@ -8,7 +8,8 @@ use crate::area::Area;
 use crate::arriving::Indication;
 use crate::call::{kind, Call, Destination, GEO_UNICAST, TSB};
 use crate::leaving::Request;
-use crate::prefix::Prefix;
+use crate::link::InterfaceNumbers;
+use crate::prefix::{Prefix, NO_PREFIX};
 use crate::replay::{Answer, Replay};
 use crate::table::{StartSettings, StopSettings, Table};
 use crate::write::record_bytes;
@@ -107,6 +108,17 @@ impl Day {
     pub fn enable_with(&mut self, area: Area, prefix: Prefix) -> Answer {
         let interface = values::interface(&mut self.random, self.bad);
         self.add(&Call::Enable(StopSettings { area, prefix, interface }))
+    }
+
+    /// One stop of each kind and flag: 2 to 7 after the start.
+    pub fn enable_each_interface(&mut self) {
+        for kind in 1..=3 {
+            for flag in 0..=1 {
+                let area = areas::fresh(&mut self.random);
+                let interface = InterfaceNumbers { kind, flag };
+                self.add(&Call::Enable(StopSettings { area, prefix: NO_PREFIX, interface }));
+            }
+        }
     }
 
     pub fn indicate(&mut self, transport: u64, destination: Destination, packet: &[u8]) -> Answer {

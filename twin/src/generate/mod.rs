@@ -5,6 +5,7 @@
 pub mod areas;
 pub mod damage;
 pub mod day;
+pub mod faults;
 pub mod noise;
 pub mod packets;
 pub mod prefixes;
@@ -16,7 +17,7 @@ pub mod values;
 use crate::table::LARGEST_MAXIMUM;
 use random::Random;
 
-pub const FILES_OF_A_ROUND: u64 = 26;
+pub const FILES_OF_A_ROUND: u64 = 27;
 
 /// The file of this number under this seed.
 pub fn day_file(seed: u64, number: u64) -> Vec<u8> {
@@ -34,10 +35,11 @@ pub fn day_file(seed: u64, number: u64) -> Vec<u8> {
         8 => themes::out_of_range(random).into_bytes(),
         9 => themes::starts(random).into_bytes(),
         10 | 11 => themes::mixed(random).into_bytes(),
-        12..=20 => damage::damaged(random),
-        21 => noise::bytes_changed(random),
-        22 => noise::cut_or_shifted(random),
-        23 => noise::formless(random),
+        12 => faults::several_faults(random).into_bytes(),
+        13..=21 => damage::damaged(random),
+        22 => noise::bytes_changed(random),
+        23 => noise::cut_or_shifted(random),
+        24 => noise::formless(random),
         _ => sizes::around_the_limit(random),
     }
 }

@@ -118,25 +118,49 @@ pub fn packet(random: &mut Random, source: &Address, to: &Address, length: usize
     packet
 }
 
-/// Makes a packet one that answers 8: wrong version or length field, or cut.
+/// Makes a packet one that answers 20, 21 or 22, sometimes with two causes.
 pub fn spoil(random: &mut Random, packet: &mut Vec<u8>) {
-    match random.below(6) {
-        0 if !packet.is_empty() => packet[0] = random.pick(&[0x00, 0x40, 0x50, 0x70, 0xE6, 0xF0]),
-        1 => packet.truncate(random.pick(&[0, 1, 5, 6, 20, 38, 39])),
-        2 => {
-            // 65,535 + 40 is 39 to a type of 16 bits.
-            packet.truncate(39);
-            set_length_field(packet, 0xFFFF);
+    match random.below(8) {
+        0 | 1 => spoil_version(random, packet),
+        2 | 3 => cut(random, packet),
+        4 | 5 => spoil_length_field(random, packet),
+        6 => {
+            spoil_version(random, packet);
+            spoil_length_field(random, packet);
         }
-        3 => packet.push(0),
         _ => {
-            let payload = packet.len().saturating_sub(HEADER_LENGTH) as u16;
-            let swapped = payload.swap_bytes();
-            let whole = payload.wrapping_add(40);
-            let wrong = [payload.wrapping_sub(1), payload + 1, payload + 256, whole, swapped];
-            set_length_field(packet, random.pick(&wrong));
+            spoil_version(random, packet);
+            cut(random, packet);
         }
     }
+}
+
+/// Reply 21: any version but 6, which may stand in the low half of the byte.
+pub fn spoil_version(random: &mut Random, packet: &mut [u8]) {
+    let version = (7 + random.below(15) as u8) % 16;
+    let low_half = if random.percent(30) { 6 } else { random.byte() & 0x0F };
+    if let Some(first) = packet.first_mut() {
+        *first = version << 4 | low_half;
+    }
+}
+
+/// Reply 20, most often with bytes that later refusals look at.
+pub fn cut(random: &mut Random, packet: &mut Vec<u8>) {
+    packet.truncate(random.pick(&[0, 1, 5, 6, 23, 24, 25, 36, 37, 38, 39, 39]));
+    if packet.len() == 39 && random.percent(50) {
+        // 65,535 + 40 is 39 to a type of 16 bits.
+        set_length_field(packet, 0xFFFF);
+    }
+}
+
+/// Reply 22: one off, one byte wrong, the whole length, the bytes exchanged, or
+/// the largest.
+pub fn spoil_length_field(random: &mut Random, packet: &mut [u8]) {
+    let right = packet.len().saturating_sub(HEADER_LENGTH) as u16;
+    let (below, above, high_byte) = (right.wrapping_sub(1), right + 1, right ^ 0x0100);
+    let mut wrong = vec![below, above, high_byte, right + 40, right.swap_bytes(), 0xFFFF];
+    wrong.retain(|&field| field != right);
+    set_length_field(packet, random.pick(&wrong));
 }
 
 fn set_length_field(packet: &mut [u8], field: u16) {
@@ -163,7 +187,6 @@ mod tests {
     use crate::generate::prefixes;
     use crate::mid::mid_of_address;
     use crate::packet::check_packet;
-    use crate::reply::Refusal;
 
     #[test]
     fn addresses_near_a_prefix() {
@@ -185,16 +208,20 @@ mod tests {
     }
 
     #[test]
-    fn right_packets_pass_and_most_spoiled_ones_do_not() {
+    fn right_packets_pass_and_spoiled_ones_do_not() {
         let mut random = Random::new(3);
         let (source, to) = ([0x20; 16], [0x21; 16]);
-        let mut spoiled = 0;
         for length in 40..=1_280 {
-            let mut right = packet(&mut random, &source, &to, length);
+            let right = packet(&mut random, &source, &to, length);
             assert!(check_packet(&right).is_ok());
-            spoil(&mut random, &mut right);
-            spoiled += u32::from(check_packet(&right) == Err(Refusal::PacketNotIpv6));
+            let mut spoiled = [right.clone(), right.clone(), right.clone(), right];
+            cut(&mut random, &mut spoiled[0]);
+            spoil_version(&mut random, &mut spoiled[1]);
+            spoil_length_field(&mut random, &mut spoiled[2]);
+            spoil(&mut random, &mut spoiled[3]);
+            let replies = spoiled.map(|packet| check_packet(&packet).unwrap_err().number());
+            assert_eq!(replies[..3], [20, 21, 22]);
+            assert!((20..=22).contains(&replies[3]));
         }
-        assert!(spoiled > 1_100);
     }
 }

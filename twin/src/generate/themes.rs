@@ -1,15 +1,15 @@
 //! Days of whole records, each with a theme of the rules.
 
 use super::day::{Day, Weights};
+use super::faults::several_faults;
 use super::packets;
 use super::random::Random;
 use super::{areas, prefixes, values};
 use crate::area::Area;
 use crate::call::{Call, Destination, GEO_ANYCAST, GEO_BROADCAST, GEO_UNICAST};
-use crate::link::InterfaceNumbers;
 use crate::prefix::{Prefix, NO_PREFIX};
 use crate::reply::Refusal;
-use crate::table::{StartSettings, StopSettings, LARGEST_MAXIMUM};
+use crate::table::{StartSettings, LARGEST_MAXIMUM};
 
 /// Starts, enables, disables, DGVL areas, own MIDs, indications, requests.
 const ALL_CALLS: Weights = [1, 25, 8, 7, 4, 30, 25];
@@ -170,13 +170,7 @@ fn send_and_receive(day: &mut Day, length: usize) {
 pub fn requests(random: Random) -> Day {
     let mut day = Day::new(random, 0);
     day.good_start(9);
-    for kind in 1..=3 {
-        for flag in 0..=1 {
-            let area = areas::fresh(&mut day.random);
-            let interface = InterfaceNumbers { kind, flag };
-            day.add(&Call::Enable(StopSettings { area, prefix: NO_PREFIX, interface }));
-        }
-    }
+    day.enable_each_interface();
     for _ in 0..2 {
         day.any_records(3, &[0, 0, 1, 5, 1, 0, 0]);
         for index in 0..=9 {
@@ -266,9 +260,9 @@ pub fn mixed(random: Random) -> Day {
     day
 }
 
-/// One of the days above that is not too long to be damaged with profit.
+/// One of the days that is not too long to be damaged with profit.
 pub fn any(mut random: Random) -> Day {
-    match random.below(7) {
+    match random.below(8) {
         0 => {
             let maximum = values::maximum(&mut random, 0);
             full_table(random, maximum)
@@ -278,6 +272,7 @@ pub fn any(mut random: Random) -> Day {
         3 => requests(random),
         4 => starts(random),
         5 => out_of_range(random),
+        6 => several_faults(random),
         _ => mixed(random),
     }
 }

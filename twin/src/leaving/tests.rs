@@ -2,7 +2,7 @@ use super::*;
 use crate::area::CIRCLE;
 use crate::link::InterfaceNumbers;
 use crate::mid::{link_local_address, LARGEST_MID};
-use crate::packet::LOOPBACK;
+use crate::packet::{fault_place, LOOPBACK};
 use crate::prefix::NO_PREFIX;
 use crate::reply::Refusal::*;
 use crate::table::{StartSettings, StopSettings};
@@ -130,20 +130,49 @@ fn a_derived_mid_is_not_judged() {
 fn refusals_come_in_order() {
     let table = table(1, 1);
     let long = [0; 1_281];
-    let mut wrong = packet(LOOPBACK, MULTICAST);
-    let loopback = wrong.clone();
-    wrong[0] = 0x40;
+    let loopback = packet(LOOPBACK, MULTICAST);
+    let mut wrong_field = loopback.clone();
+    wrong_field[5] ^= 1;
+    let mut wrong_version = wrong_field.clone();
+    wrong_version[0] = 0x40;
+    let short = &wrong_version[..39];
     for (index, neighbour, packet, refusal) in [
         (9, Some(LARGEST_MID + 1), &long[..], ValueOutsideItsList),
         (0, Some(u64::MAX), &packet(SOURCE, MULTICAST), ValueOutsideItsList),
         (9, None, &long[..], NoEnabledLink),
+        (9, None, short, NoEnabledLink),
         (1, None, &long[..], PacketAbove1280),
-        (1, None, &wrong[..], PacketNotIpv6),
+        (1, None, short, PacketShort),
+        (1, None, &wrong_version[..], VersionNot6),
+        (1, None, &wrong_field[..], LengthFieldWrong),
         (1, None, &loopback[..], AddressNotAllowed),
         (1, None, &packet(SOURCE, MULTICAST), MulticastWithoutArea),
         (1, None, &packet(SOURCE, PLAIN), NeighbourNotResolvable),
     ] {
         assert_eq!(table.request(&request(index, neighbour, packet)), Err(refusal));
+    }
+}
+
+#[test]
+fn the_place_of_each_short_packet_and_each_version_on_each_link() {
+    let good = packet(SOURCE, MULTICAST);
+    let table = table(1, 1);
+    let refused = |index: u64, packet: &[u8]| {
+        let refusal = table.request(&request(index, None, packet)).unwrap_err();
+        (refusal.number(), fault_place(refusal, packet))
+    };
+    for index in 0..=3 {
+        for length in 0..40 {
+            assert_eq!(refused(index, &good[..length]), (20, length));
+        }
+        for version in (0..16).filter(|&version| version != 6) {
+            let mut wrong = good.clone();
+            wrong[0] = version << 4;
+            assert_eq!(refused(index, &wrong), (21, 0));
+        }
+        let mut wrong = good.clone();
+        wrong[5] += 1;
+        assert_eq!(refused(index, &wrong), (22, 4));
     }
 }
 

@@ -1,0 +1,111 @@
+//! Which refusals of its call hold of an indication or a request of a day file,
+//! each asked by itself, whatever the others say. The call gives the first of
+//! them (`reply-first`); the rest shows whether a listing depends on the order.
+//!
+//! A short packet lacks bytes that other conditions name. A condition holds of it
+//! only where all the bytes that its rule names are there: byte 0 for 21; bytes 4
+//! and 5 for 22; the whole of an address for 10; the destination's first byte for
+//! 11 and 12, and for 12 the bytes of FF FE too where the MID comes from there.
+
+use crate::arriving::{Indication, FRAME_HEADER_LENGTH};
+use crate::call::{Call, Destination};
+use crate::leaving::Request;
+use crate::link::Interface;
+use crate::mid::check_mid;
+use crate::packet::{is_multicast, Address, HEADER_LENGTH, LONGEST_PACKET, LOOPBACK, UNSPECIFIED};
+use crate::replay::LENT_TO_AN_INDICATION;
+use crate::table::{Table, DGVL};
+
+/// A reply number, and whether its condition holds.
+type Condition = (u8, bool);
+
+/// The numbers that hold of the call, in its order; none for calls of other kinds.
+pub fn holding(table: &Table, call: &Call) -> Vec<u8> {
+    let conditions = match call {
+        Call::Indication(indication) => of_indication(indication),
+        Call::Request(request) => of_request(table, request),
+        _ => Vec::new(),
+    };
+    conditions.into_iter().filter(|&(_, holds)| holds).map(|(reply, _)| reply).collect()
+}
+
+/// `indication-refusals`. A record's transport is in 1..4 and its destination of
+/// the right sort, so that 1 is left for the MIDs.
+fn of_indication(indication: &Indication) -> Vec<Condition> {
+    let (wide_to, bad_area) = match indication.destination {
+        Destination::Mid(mid) => (check_mid(mid).is_err(), false),
+        Destination::Area(area) => (false, !area.is_good()),
+        Destination::Nothing => (false, false),
+    };
+    let mut conditions = vec![(1, wide_to || check_mid(indication.source).is_err()), (2, bad_area)];
+    conditions.extend(of_packet(indication.packet));
+    conditions.push((13, LENT_TO_AN_INDICATION < indication.packet.len() + FRAME_HEADER_LENGTH));
+    conditions
+}
+
+/// `request-refusals`.
+fn of_request(table: &Table, request: &Request) -> Vec<Condition> {
+    let link = table.interface(request.index).ok();
+    let multicast = destination_is_multicast(request.packet);
+    let without_area = request.index == DGVL && table.dgvl_area.is_none();
+    let mut conditions = vec![
+        (1, request.neighbour.is_some_and(|mid| check_mid(mid).is_err())),
+        (7, link.is_none()),
+    ];
+    conditions.extend(of_packet(request.packet));
+    conditions.extend([
+        (11, multicast == Some(true) && without_area),
+        (12, multicast == Some(false) && link.is_some_and(|link| lacks_a_mid(link, request))),
+    ]);
+    conditions
+}
+
+/// `packet-refusals`.
+fn of_packet(packet: &[u8]) -> [Condition; 5] {
+    let length = packet.len();
+    [
+        (9, length > LONGEST_PACKET),
+        (20, length < HEADER_LENGTH),
+        (21, version(packet).is_some_and(|version| version != 6)),
+        (22, length_field(packet).is_some_and(|field| usize::from(field) + 40 != length)),
+        (10, source_is_forbidden(packet) || destination_is_forbidden(packet)),
+    ]
+}
+
+/// The high half of byte 0.
+fn version(packet: &[u8]) -> Option<u8> {
+    packet.first().map(|first| first >> 4)
+}
+
+/// Bytes 4 and 5 as a big-endian number.
+fn length_field(packet: &[u8]) -> Option<u16> {
+    let bytes = packet.get(4..6)?;
+    bytes.try_into().ok().map(u16::from_be_bytes)
+}
+
+/// Bytes 8 to 23.
+fn source_is_forbidden(packet: &[u8]) -> bool {
+    let source = packet.get(8..24).and_then(|bytes| Address::try_from(bytes).ok());
+    source.is_some_and(|source| is_multicast(&source) || source == LOOPBACK)
+}
+
+/// Bytes 24 to 39.
+fn destination_is_forbidden(packet: &[u8]) -> bool {
+    packet.get(24..40).is_some_and(|to| to == UNSPECIFIED || to == LOOPBACK)
+}
+
+/// The destination's first byte says it.
+fn destination_is_multicast(packet: &[u8]) -> Option<bool> {
+    packet.get(24).map(|&first| first == 0xFF)
+}
+
+/// `neighbour-mid`: FF FE are the 4th and 5th of the destination's last 8 bytes.
+fn lacks_a_mid(link: Interface, request: &Request) -> bool {
+    match link.derives_the_mid() {
+        true => request.packet.get(35..37).is_some_and(|middle| middle != [0xFF, 0xFE]),
+        false => request.neighbour.is_none(),
+    }
+}
+
+#[cfg(test)]
+mod tests;
