@@ -122,16 +122,19 @@ static struct day new_day(u64 stops) {
 }
 
 // What is appended to a day many times over: a record, or a few that belong together.
-enum work { AREA, PREFIX, SOURCE, TSB, REFUSED, UNICAST, MULTICAST, GROUP_TVL, FIXED, AGAIN, OWN_MID, DGVL_AREA, IN_AND_OUT };
+enum work { AREA, PREFIX, SOURCE, TSB, REFUSED, SHORT, VERSION, LENGTH_FIELD, UNICAST, MULTICAST, GROUP_TVL, FIXED, AGAIN, OWN_MID, DGVL_AREA, IN_AND_OUT };
 
 static void put_work(struct day *d, enum work w, u64 stop, usize length) {
     static u8 p[1280];
     make_packet(p, length, w == SOURCE ? stop : NO_STOP, w == PREFIX || w == UNICAST ? stop : NO_STOP);
     if (w == REFUSED) p[8] = 0xff;
+    if (w == SHORT) length = 39;
+    if (w == VERSION) p[0] = 0x50;
+    if (w == LENGTH_FIELD) p[5]++;
     if (w == MULTICAST || w == GROUP_TVL) p[24] = 0xff;
     switch (w) {
     case AREA: put_indication(d, 3, stop, p, length); break;
-    case PREFIX: case SOURCE: case REFUSED: put_indication(d, 1, 0, p, length); break;
+    case PREFIX: case SOURCE: case REFUSED: case SHORT: case VERSION: case LENGTH_FIELD: put_indication(d, 1, 0, p, length); break;
     case TSB: put_indication(d, 4, 0, p, length); break;
     case UNICAST: case MULTICAST: put_request(d, stop + 2, p, length); break;
     case GROUP_TVL: put_request(d, 0, p, length); break;
@@ -182,6 +185,9 @@ static void print_indications(void) {
     print_row("indication by prefix of the source, the last of 64", one(SOURCE, 64, 63, 40));
     print_row("indication by prefix, none of 64", one(PREFIX, 64, NO_STOP, 40));
     print_row("indication for all (TSB)", one(TSB, 64, 0, 40));
+    print_row("indication refused: packet short", one(SHORT, 64, 0, 40));
+    print_row("indication refused: version", one(VERSION, 64, 0, 40));
+    print_row("indication refused: length field", one(LENGTH_FIELD, 64, 0, 40));
     print_row("indication refused: source multicast", one(REFUSED, 64, 0, 40));
 }
 
