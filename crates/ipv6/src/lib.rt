@@ -1,4 +1,4 @@
-// IPv6 as far as the rules need it: is a packet good, where are its addresses, and what they say of a MID.
+// IPv6 as far as the rules need it: is a packet good, and where not; where are its addresses, and what they say of a MID.
 ghost use mathlib.Core.Path.{_≡_};
 ghost use Rattle.octets.specs.Runs.{same};
 ghost use Rattle.replies.specs.Rules.{refusal};
@@ -71,6 +71,7 @@ pub fn packet_refusal(packet: &[u8]) -> u8
     if packet.len() < 40 {
         return replies::PACKET_SHORT;
     }
+    // A good packet passes all three, and nearly every packet is good; so they are tested first, and told in their order.
     let wrong_version = packet[0] / 16 != 6;
     let wrong_length = octets::number16(packet, 4) as usize + 40 != packet.len();
     let forbidden = is_forbidden(packet);
