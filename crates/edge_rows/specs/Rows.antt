@@ -1,5 +1,5 @@
 -- RULES, Cases at the edges: those marked * as rows of one list, under the single statement `Edges`.
-use Prim.Native.Nat.{ℕ, _-_}
+use Prim.Native.Nat.{ℕ, _-_, _^_}
 use mathlib.Core.Path.{_≡_}
 use mathlib.Core.Bool.{Bool, true, false}
 use mathlib.Core.List.{List, [], _∷_, _++_}
@@ -14,12 +14,12 @@ use Rattle.links.specs.declared.PerhapsLink.the-variants.{Link, Nothing}
 use Rattle.links.specs.declared.Reply.{Reply}
 use Rattle.links.specs.declared.Settings.{Settings}
 use Rattle.links.specs.declared.Table.{Table}
-use Rattle.links.specs.Slots.{tvlIndex}
 use Rattle.links.specs.Calls.{TableCall, enable, disable, reply, startByValue, plain}
 use Rattle.ipv6.specs.declared.PerhapsMid.{PerhapsMid}
 use Rattle.ipv6.specs.declared.PerhapsMid.the-variants.{Mid, Nothing as NoMid}
 use Rattle.ipv6.specs.Identifier.{linkLocal, midOf}
-use Rattle.traffic.specs.declared.Destination.the-variants.{Nothing as NoDestination}
+use Rattle.traffic.specs.declared.Destination.{Destination}
+use Rattle.traffic.specs.declared.Destination.the-variants.{Within, Nothing as NoDestination}
 use Rattle.traffic.specs.declared.Reception.{Reception}
 use Rattle.traffic.specs.declared.Sending.{Sending}
 use Rattle.traffic.specs.Arrives.{receive}
@@ -78,17 +78,19 @@ fromLoopback p = take 8 p ++ replicate 15 0 ++ 1 ∷ drop 24 p
 abbrev pub startWith : ℕ → Reply
 startWith max = startByValue (record { own = 1; max = max; tvl = plain; dgvl = plain })
 
--- a packet that arrives by TSB, where room is lent for every packet, and one that leaves on the TVL
-abbrev pub arriving : List ℕ → Reception
-arriving p =
-    receive (startWith 65 .table) (record { transport = 4; source = 2; class = 0; destination = NoDestination; packet = p }) (replicate 1294 0) .reply
+-- a packet that arrives: its source MID, its transport and destination, and the room that is lent
+abbrev pub arriving : ℕ → ℕ → Destination → ℕ → List ℕ → Reception
+arriving source transport to room p =
+    receive (startWith 65 .table) (record { transport = transport; source = source; class = 0; destination = to; packet = p }) (replicate room 0) .reply
 
-abbrev pub leaving : List ℕ → Sending
-leaving p = send (startWith 65 .table) (record { index = tvlIndex; class = 0; neighbour = NoMid; packet = p })
+-- one that leaves: the index of its link, and perhaps a neighbour's MID
+abbrev pub leaving : ℕ → PerhapsMid → List ℕ → Sending
+leaving index neighbour p = send (startWith 65 .table) (record { index = record { 0 = index }; class = 0; neighbour = neighbour; packet = p })
 
--- number and place of both
+-- number and place of a packet: by TSB, where room is lent for every packet, and on the TVL
 abbrev pub answered : List ℕ → List ℕ
-answered p = arriving p .number ∷ arriving p .place ∷ leaving p .number ∷ leaving p .place ∷ []
+answered p =
+    arriving 2 4 NoDestination 1294 p .number ∷ arriving 2 4 NoDestination 1294 p .place ∷ leaving 0 NoMid p .number ∷ leaving 0 NoMid p .place ∷ []
 
 -- which are the same
 infix 19 _at_
@@ -144,6 +146,13 @@ rows =
     ∷ (answered (wrongLength (fromLoopback (packet 40))) are 22 at 4)
     ∷ (answered (fromLoopback (packet 40)) are 10 at 0)
     ∷ (answered (versionFive (wrongLength (fromLoopback (packet 1281)))) are 9 at 0)
+    -- edge-order: what comes before the packet, and what behind it
+    ∷ (arriving (2 ^ 48) 3 (Within (shaped 1 1 360)) 1294 (packet 40) .number is 1)
+    ∷ (arriving 2 3 (Within (shaped 1 1 360)) 1294 (packet 39) .number is 2)
+    ∷ (arriving 2 4 NoDestination 0 (packet 39) .number is 20)
+    ∷ (leaving 5 (Mid (2 ^ 48)) (packet 40) .number is 1)
+    ∷ (leaving 5 NoMid (packet 39) .number is 7)
+    ∷ (leaving 1 NoMid (packet 39) .number is 20)
     ∷ []
 
 unfoldable pub Edges : Type 0

@@ -43,6 +43,6 @@ faultPlace n p = cond (eqb n 20) (length p) (cond (eqb n 22) 4 0)
 -- a reply of this number has this place in the packet, number by number
 pub record Placed (p : List ℕ) (number place : ℕ) : Type 0 where
   pub short : number ≡ 20 → place ≡ length p
-  pub version : number ≡ 21 → place ≡ 0
+  pub otherVersion : number ≡ 21 → place ≡ 0
   pub lengthField : number ≡ 22 → place ≡ 4
   pub other : number ≢ 20 → number ≢ 21 → number ≢ 22 → place ≡ 0
