@@ -1,7 +1,8 @@
--- RULES, Area: which areas are good, and which two are the same.
-use mathlib.Core.Bool.{Bool, false, _&&_, _||_}
+-- RULES, Area: which areas are good, the normal form of each, and which two are equal.
+use Prim.Native.Nat.{ℕ, _+_, _%_}
+use mathlib.Core.Bool.{Bool, false, cond, _&&_, _||_}
 use lib.IntN.{ℤ, pos, negsuc, negℤ}
-use lib.Dec.{eqb, leb}
+use lib.Dec.{eqb, leb, ltb}
 use lib.Signed.{leZ}
 use Rattle.area.specs.declared.Area.{Area}
 
@@ -24,12 +25,47 @@ goodArea x =
     && leb 1 (x .a)
     && (eqb (x .shape) 0 || leb 1 (x .b))
 
--- area-equal: all six numbers are equal
-unfoldable pub sameArea : Area → Area → Bool
-sameArea x y =
+-- both ends of the longitude range are one
+abbrev pub normalLongitude : ℤ → ℤ
+normalLongitude z = cond (eqZ z (pos 1_800_000_000)) (negℤ (pos 1_800_000_000)) z
+
+-- the centre of x, and what else describes the area
+abbrev pub described : Area → ℕ → ℕ → ℕ → ℕ → Area
+described x shape a b angle = record {
+  shape = shape;
+  latitude = x .latitude;
+  longitude = normalLongitude (x .longitude);
+  a = a;
+  b = b;
+  angle = angle;
+}
+
+-- a circle, or an ellipse with a = b
+abbrev pub isRound : Area → Bool
+isRound x = eqb (x .shape) 0 || (eqb (x .shape) 2 && eqb (x .a) (x .b))
+
+-- area-normal, line by line
+unfoldable pub normal : Area → Area
+normal x =
+    cond (isRound x) (described x 0 (x .a) 0 0)
+    (cond (eqb (x .a) (x .b)) (described x (x .shape) (x .a) (x .b) (x .angle % 90))
+    (cond (ltb (x .a) (x .b)) (described x (x .shape) (x .a) (x .b) (x .angle % 180))
+    (described x (x .shape) (x .b) (x .a) ((x .angle + 90) % 180))))
+
+-- the same six numbers
+unfoldable pub sameNumbers : Area → Area → Bool
+sameNumbers x y =
     eqb (x .shape) (y .shape)
     && eqZ (x .latitude) (y .latitude)
     && eqZ (x .longitude) (y .longitude)
     && eqb (x .a) (y .a)
     && eqb (x .b) (y .b)
     && eqb (x .angle) (y .angle)
+
+-- n is the normal form of x
+unfoldable pub hasNormal : Area → Area → Bool
+hasNormal x n = sameNumbers (normal x) n
+
+-- area-equal: one normal form
+unfoldable pub sameArea : Area → Area → Bool
+sameArea x y = hasNormal x (normal y)

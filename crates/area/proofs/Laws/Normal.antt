@@ -1,0 +1,112 @@
+-- A change does not change the normal form.
+use Prim.Native.Nat.{ℕ, _+_, _%_, _<_}
+use native.Mathlib.Omega.{arith}
+use mathlib.Core.Path.{_≡_, refl, sym, _∙_, ap}
+use mathlib.Core.Bool.{Bool, true, false, cond, _&&_, _||_}
+use lib.Dec.{eqb, ltb}
+use lib.IntN.{ℤ, pos, negℤ}
+use borrow.Author.Tests.{eqb-true, eqb-false, eq-eqb, ne-eqb, ltb-true, ltb-false, lt-ltb, le-ltb}
+use Rattle.area.specs.declared.Area.{Area}
+use Rattle.area.specs.Area.{eqZ, normalLongitude, described, isRound, normal}
+use Rattle.area.specs.Ground.{area, Sided, rectangle, ellipse, Change, circle, halfTurn, exchange, disc, ends, Chain, none, one, back, join}
+
+-- how a and b compare, as `normal` asks it, and as it asks it of b and a
+pub data Sides (a b : ℕ) : Bool → Bool → Bool → Bool → Type 0 where
+  equal : a ≡ b → Sides a b true false true false
+  less : a < b → Sides a b false true false false
+  more : b < a → Sides a b false false false true
+
+pub sides : (a b : ℕ) → Sides a b (eqb a b) (ltb a b) (eqb b a) (ltb b a)
+sides a b = go (eqb a b) (ltb a b) refl refl
+  where
+    go : (p q : Bool) → eqb a b ≡ p → ltb a b ≡ q → Sides a b p q (eqb b a) (ltb b a)
+    go true true e f = absurd (omega (arith, eqb-true a b e, ltb-true a b f))
+    go true false e f = rw (eq-eqb b a (sym (eqb-true a b e)), le-ltb b a (omega (arith, eqb-true a b e))) (equal (eqb-true a b e))
+    go false true e f = rw (ne-eqb b a (λ q. eqb-false a b e (sym q)), le-ltb b a (omega (arith, ltb-true a b f))) (less (ltb-true a b f))
+    go false false e f = rw (ne-eqb b a (λ q. eqb-false a b e (sym q)), lt-ltb b a (omega (arith, eqb-false a b e, ltb-false a b f))) (more (omega (arith, eqb-false a b e, ltb-false a b f)))
+
+-- the normal form of what is not round, by the two tests
+unfoldable pub by-sides : Bool → Bool → Area → Area
+by-sides p q x =
+    cond p (described x (x .shape) (x .a) (x .b) (x .angle % 90))
+    (cond q (described x (x .shape) (x .a) (x .b) (x .angle % 180))
+    (described x (x .shape) (x .b) (x .a) ((x .angle + 90) % 180)))
+
+-- and of an ellipse, which is round where they are equal
+unfoldable pub by-axes : Bool → Bool → Area → Area
+by-axes p q x = cond p (described x 0 (x .a) 0 0) (by-sides p q x)
+
+module _ (s : ℕ) (y x : ℤ) where
+  half-turned : (p q : Bool) (a b g : ℕ) → by-sides p q (area s y x a b g) ≡ by-sides p q (area s y x a b (g + 180))
+  unfolding by-sides
+  half-turned true q a b g = ap (described (area s y x a b g) s a b) (omega arith)
+  half-turned false true a b g = ap (described (area s y x a b g) s a b) (omega arith)
+  half-turned false false a b g = ap (described (area s y x a b g) s b a) (omega arith)
+
+  half-turned-axes : (p q : Bool) (a b g : ℕ) → by-axes p q (area s y x a b g) ≡ by-axes p q (area s y x a b (g + 180))
+  unfolding by-axes
+  half-turned-axes true q a b g = refl
+  half-turned-axes false q a b g = half-turned false q a b g
+
+  exchanged : {p q r t : Bool} (a b g : ℕ) → Sides a b p q r t → by-sides p q (area s y x a b g) ≡ by-sides r t (area s y x b a ((g + 90) % 360))
+  unfolding by-sides
+  exchanged a b g (equal e) = let f : g % 90 ≡ (g + 90) % 360 % 90 = omega arith in λ i. area s y (normalLongitude x) (e i) (sym e i) (f i)
+  exchanged a b g (less e) = ap (described (area s y x a b g) s a b) (omega arith)
+  exchanged a b g (more e) = ap (described (area s y x a b g) s b a) (omega arith)
+
+  exchanged-axes : {p q r t : Bool} (a b g : ℕ) → Sides a b p q r t → by-axes p q (area s y x a b g) ≡ by-axes r t (area s y x b a ((g + 90) % 360))
+  unfolding by-axes
+  exchanged-axes a b g (equal e) = ap (λ (c : ℕ). area 0 y (normalLongitude x) c 0 0) e
+  exchanged-axes a b g (less e) = exchanged a b g (less e)
+  exchanged-axes a b g (more e) = exchanged a b g (more e)
+
+kept : {x y : Area} → Change x y → normal x ≡ normal y
+unfolding normal by-sides by-axes
+kept (circle b c g h) = refl
+kept (halfTurn rectangle {y = y} {x = x} {a = a} {b = b} g) = half-turned 1 y x (eqb a b) (ltb a b) a b g
+kept (halfTurn ellipse {y = y} {x = x} {a = a} {b = b} g) = half-turned-axes 2 y x (eqb a b) (ltb a b) a b g
+kept (exchange rectangle {y = y} {x = x} {a = a} {b = b} g) = exchanged 1 y x a b g (sides a b)
+kept (exchange ellipse {y = y} {x = x} {a = a} {b = b} g) = exchanged-axes 2 y x a b g (sides a b)
+kept (disc {y = y} {x = x} {a = a} b g h) = ap (λ (p : Bool). by-axes p (ltb a a) (area 2 y x a a g)) (eq-eqb a a refl)
+kept ends = refl
+
+-- a chain joins areas of one normal form
+pub normal-kept : {x y : Area} → Chain x y → normal x ≡ normal y
+normal-kept (none ok) = refl
+normal-kept (one p q c) = kept c
+normal-kept (back c) = sym (normal-kept c)
+normal-kept (join c d) = normal-kept c ∙ normal-kept d
+
+longitude-again : (z : ℤ) → normalLongitude (normalLongitude z) ≡ normalLongitude z
+longitude-again z = go (eqZ z (pos 1_800_000_000)) refl
+  where
+    go : (t : Bool) → eqZ z (pos 1_800_000_000) ≡ t → normalLongitude (cond t (negℤ (pos 1_800_000_000)) z) ≡ cond t (negℤ (pos 1_800_000_000)) z
+    go true e = refl
+    go false e = rw e
+
+module _ (s : ℕ) (y x : ℤ) (a b g : ℕ) where
+  sides-again : {p q r t : Bool} → Sides a b p q r t → (eqb s 0 || (eqb s 2 && p)) ≡ false → normal (by-sides p q (area s y x a b g)) ≡ by-sides p q (area s y x a b g)
+  unfolding normal by-sides
+  sides-again (equal e) f = let is : g % 90 % 90 ≡ g % 90 = omega arith in rw (eq-eqb a b e, f, longitude-again x, is)
+  sides-again (less e) f = let is : g % 180 % 180 ≡ g % 180 = omega arith in rw (ne-eqb a b (λ q. omega arith), f, lt-ltb a b e, longitude-again x, is)
+  sides-again (more e) f = let is : (g + 90) % 180 % 180 ≡ (g + 90) % 180 = omega arith in rw (ne-eqb b a (λ q. omega arith), f, lt-ltb b a e, longitude-again x, is)
+
+  round-again : (t : Bool) → isRound (area s y x a b g) ≡ t → normal (normal (area s y x a b g)) ≡ normal (area s y x a b g)
+  unfolding normal by-sides
+  round-again true e = rw (e, longitude-again x)
+  round-again false e = rw e (sides-again (sides a b) e)
+
+-- a normal form is its own, of a good area or not
+pub normal-again : (x : Area) → normal (normal x) ≡ normal x
+normal-again x = round-again (x .shape) (x .latitude) (x .longitude) (x .a) (x .b) (x .angle) (isRound x) refl
+
+-- no change alters the latitude
+pub normal-latitude : (x : Area) → normal x .latitude ≡ x .latitude
+unfolding normal by-sides
+normal-latitude x = by-tests (isRound x) (eqb (x .a) (x .b)) (ltb (x .a) (x .b))
+  where
+    by-tests : (o p q : Bool) → cond o (described x 0 (x .a) 0 0) (by-sides p q x) .latitude ≡ x .latitude
+    by-tests true p q = refl
+    by-tests false true q = refl
+    by-tests false false true = refl
+    by-tests false false false = refl
