@@ -2,7 +2,8 @@
 use Prim.Native.Nat.{ℕ, _-_, min}
 use mathlib.Core.Bool.{Bool, cond, _||_}
 use lib.Dec.{eqb, leb, ltb}
-use Rattle.area.specs.Area.{sameArea}
+use Rattle.area.specs.declared.Area.{Area}
+use Rattle.area.specs.Area.{normal, hasNormal, sameArea}
 use Rattle.prefix.specs.Prefix.{overlap}
 use Rattle.links.specs.declared.Interface.{Interface}
 use Rattle.links.specs.declared.LinkIndex.{LinkIndex}
@@ -17,10 +18,23 @@ use Rattle.value_slots.specs.declared.Found.{Found}
 use Rattle.value_slots.specs.declared.Wanted.{Wanted}
 use Rattle.value_slots.specs.declared.Wanted.the-variants.{Unused, SameGround, Overlapping}
 
+-- which slot passes a question, by a test of a link's area against the one that is asked for
+abbrev pub passesBy : (Area → Area → Bool) → Wanted → Slot → Bool
+passesBy ground Unused = unused
+passesBy ground (SameGround a) = with (λ r. ground (r .area) a)
+passesBy ground (Overlapping p) = with (λ r. overlap (r .prefix) p)
+
 abbrev pub passes : Wanted → Slot → Bool
-passes Unused = unused
-passes (SameGround a) = with (λ r. sameArea (r .area) a)
-passes (Overlapping p) = with (λ r. overlap (r .prefix) p)
+passes wanted = passesBy sameArea wanted
+
+-- the question as the loop asks it: with the normal form of its area, found once, and the test that takes it
+abbrev pub asked : Wanted → Wanted
+asked Unused = Unused
+asked (SameGround a) = SameGround (normal a)
+asked (Overlapping p) = Overlapping p
+
+abbrev pub fits : Wanted → Slot → Bool
+fits wanted = passesBy hasNormal wanted
 
 -- whether a slot passes, the place of the first that does, and its link; the dynamic link where none does
 abbrev pub found : Table → (Slot → Bool) → Found

@@ -11,7 +11,7 @@ use prefix::Prefix;
 ghost use mathlib.Core.Path.{_≡_};
 ghost use Prim.Native.Nat.{_-_, _≤_, min};
 ghost use Rattle.links.specs.Slots.{indexAt, counted, slotAt};
-ghost use Rattle.value_slots.specs.Search.{passes, found, slotPlace, placeIn, slotFrom};
+ghost use Rattle.value_slots.specs.Search.{passes, asked, fits, found, slotPlace, placeIn, slotFrom};
 
 // Which slot is looked for, with what the question asks for. What holds an address is what overlaps the prefix of that address
 // alone.
@@ -21,14 +21,25 @@ pub enum Wanted {
     Overlapping(Prefix),
 }
 
-fn is_wanted(x: Slot, wanted: Wanted) -> bool
-    ensures { λ r. ⌜ r ≡ passes wanted x ⌝ }
+// The question with the normal form of its area. It is found here, once, and not for every slot.
+fn as_asked(wanted: Wanted) -> Wanted
+    ensures { λ r. ⌜ r ≡ asked wanted ⌝ }
+{
+    match wanted {
+        Wanted::Unused => Wanted::Unused,
+        Wanted::SameGround(a) => Wanted::SameGround(area::normal(a)),
+        Wanted::Overlapping(p) => Wanted::Overlapping(p),
+    }
+}
+
+fn is_wanted(x: Slot, asked: Wanted) -> bool
+    ensures { λ r. ⌜ r ≡ fits asked x ⌝ }
 {
     let r = x.settings;
     let on = x.enabled;
-    match wanted {
+    match asked {
         Wanted::Unused => !on,
-        Wanted::SameGround(a) => on && area::equal(r.area, a),
+        Wanted::SameGround(n) => on && area::has_normal(r.area, n),
         Wanted::Overlapping(p) => on && prefix::overlaps(r.prefix, p),
     }
 }
@@ -77,11 +88,12 @@ pub struct Found {
 pub fn find(t: Table, wanted: Wanted) -> Found
     ensures { λ r. ⌜ r ≡ found t (passes wanted) ⌝ }
 {
+    let question = as_asked(wanted);
     let n = slot_count(t.max);
     let mut i: usize = 0;
     while i < n {
         let x = t.slots[i];
-        if is_wanted(x, wanted) {
+        if is_wanted(x, question) {
             let r = x.settings;
             let interface = r.interface;
             let link = Chosen {

@@ -1,9 +1,10 @@
 -- What the search finds is whole where each of its parts is right.
 use Prim.Native.Nat.{ℕ, _≤_, _<_}
-use mathlib.Core.Path.{_≡_, sym, _∙_, ap, subst}
+use mathlib.Core.Path.{_≡_, refl, sym, _∙_, ap, subst}
 use mathlib.Core.Bool.{Bool, true, false, cond}
 use lib.ListN.{length, getD}
 use borrow.Author.Tests.{lt-ltb, le-ltb}
+use Rattle.area.specs.Area.{sameArea}
 use Rattle.links.specs.declared.Chosen.{Chosen}
 use Rattle.links.specs.declared.LinkIndex.{LinkIndex}
 use Rattle.links.specs.declared.Slot.{Slot}
@@ -12,7 +13,9 @@ use Rattle.links.specs.Slots.{dgvlIndex, indexAt, free, counted, any, place}
 use Rattle.links.specs.Index.{interfaceAt, chosen}
 use Rattle.links.proofs.Laws.Kinds.{stop-kind, dynamic-kind, chosen-is}
 use Rattle.links.proofs.Laws.Search.{any-place}
-use Rattle.value_slots.specs.Search.{found}
+use Rattle.value_slots.specs.declared.Wanted.{Wanted}
+use Rattle.value_slots.specs.declared.Wanted.the-variants.{Unused, SameGround, Overlapping}
+use Rattle.value_slots.specs.Search.{passes, asked, fits, found}
 
 module _ (t : Table) (q : Slot → Bool) where
   -- by whether there is one
@@ -31,3 +34,13 @@ module _ (t : Table) (q : Slot → Bool) where
       let none : any q (counted t) ≡ false = any-place q (counted t) ∙ le-ltb (place q (counted t)) (length (counted t)) (subst (λ (j : ℕ). length (counted t) ≤ j) here past) in
       let dynamic : Chosen = record { index = dgvlIndex; kind = t .dgvl .kind } in
       ap (λ (j : ℕ). record { any = false; place = j; link = dynamic }) here ∙ whole false none dynamic (ap (λ (k : ℕ). record { index = dgvlIndex; kind = k }) (dynamic-kind t))
+
+-- who asks for the normal form, and compares with it, asks for the ground
+pub asks-the-ground : (wanted question : Wanted) → question ≡ asked wanted → _≡_ {A = Slot → Bool} (fits question) (passes wanted)
+unfolding sameArea
+asks-the-ground wanted question e = ap fits e ∙ by-question wanted
+  where
+    by-question : (w : Wanted) → _≡_ {A = Slot → Bool} (fits (asked w)) (passes w)
+    by-question Unused = refl
+    by-question (SameGround a) = refl
+    by-question (Overlapping p) = refl

@@ -9,8 +9,9 @@ use Rattle.links.specs.declared.Slot.{Slot}
 use Rattle.links.specs.Slots.{free, counted, place}
 use Rattle.links.proofs.Laws.Counted.{counted-length, counted-at, any-default}
 use Rattle.links.proofs.Laws.Search.{Looking, start, hit, pass, end}
-use Rattle.value_slots.specs.Search.{passes}
-use Rattle.value_slots.proofs.Laws.Found.{found-at, found-none}
+use Rattle.value_slots.specs.declared.Found.{Found}
+use Rattle.value_slots.specs.Search.{passes, fits, found}
+use Rattle.value_slots.proofs.Laws.Found.{found-at, found-none, asks-the-ground}
 use Rattle.value_slots.proofs.find.Statement.{statement}
 use Rattle.value_slots.proofs.find.Tie as tie
 
@@ -18,18 +19,18 @@ abbrev kind-of : Slot → ℕ
 kind-of x = x .settings .interface .kind
 
 abbrev Inv-loop : tie.InvT-loop
-Inv-loop wanted t n i₀ i = Looking (passes wanted) (counted t) n i
+Inv-loop t question n i₀ i = Looking (fits question) (counted t) n i
 
 abbrev μ-loop : tie.MeasureT-loop
-μ-loop wanted t n i₀ i = n - i
+μ-loop t question n i₀ i = n - i
 
 all : (c : tie.Start Inv-loop μ-loop) → length (c .args .t1 .slots) ≡ 64
 all c = search (length-mapped, needs)
 
 loop-holds : tie.Need-loop-holds Inv-loop μ-loop
 loop-holds c =
-    let args = c .before .args in
-    start (passes (args .wanted)) (counted (args .t1)) (c .slot-count .ensures ∙ sym (counted-length (args .t1) 64 (all (c .before))))
+    let t = c .before .before .args .t1 in
+    start (fits (c .before .as-asked .result)) (counted t) (c .slot-count .ensures ∙ sym (counted-length t 64 (all (c .before .before))))
 
 mul-x : tie.Need-mul-x Inv-loop μ-loop
 mul-x c = omega arith
@@ -40,17 +41,22 @@ element-copy-out-x c = omega arith
 index-of-requires : tie.Need-index-of-requires Inv-loop μ-loop
 index-of-requires c κs = omega (arith, c .before .before .before .before .before .before .before .slot-count .ensures)
 
+-- what was found for the question was found for what is wanted
+for-wanted : (c : tie.After-as-asked Inv-loop μ-loop) (f : Found) → f ≡ found (c .before .args .t1) (fits (c .as-asked .result)) → f ≡ found (c .before .args .t1) (passes (c .before .args .wanted))
+for-wanted c f e = e ∙ ap (found (c .before .args .t1)) (asks-the-ground (c .before .args .wanted) (c .as-asked .result) (c .as-asked .ensures))
+
 returns : tie.Need-returns Inv-loop μ-loop
 returns c =
-    let args = c .before .before .before .before .before .before .before .before .before .args in
+    let asked = c .before .before .before .before .before .before .before .before .before in
+    let t = asked .before .args .t1 in
     let l = c .before .before .before .before .before .before .before .loop in
-    let q = passes (args .wanted) in
-    let within : l .i < length (counted (args .t1)) = omega (arith, l .inv .count, c .before .before .before .before .before .before .loop-test .taken) in
-    let here : l .i ≡ place q (counted (args .t1)) =
-    hit q (counted (args .t1)) (l .inv) _ (c .before .before .before .before .before .before .loop-test .taken)
-    (ap q (counted-at (args .t1) (l .i) _ within) ∙ sym (c .before .before .before .before .is-wanted .ensures) ∙ c .before .before .before .if1 .taken) in
-    found-at (args .t1) q (l .i) _ here within (c .index-of .ensures)
-    (ap kind-of (any-default (args .t1 .slots) (l .i) _ free (omega (arith, all (c .before .before .before .before .before .before .before .before .before), c .before .before .before .before .before .before .before .before .slot-count .ensures)) ∙ sym (counted-at (args .t1) (l .i) free within)))
+    let q = fits (asked .as-asked .result) in
+    let within : l .i < length (counted t) = omega (arith, l .inv .count, c .before .before .before .before .before .before .loop-test .taken) in
+    let here : l .i ≡ place q (counted t) =
+    hit q (counted t) (l .inv) _ (c .before .before .before .before .before .before .loop-test .taken)
+    (ap q (counted-at t (l .i) _ within) ∙ sym (c .before .before .before .before .is-wanted .ensures) ∙ c .before .before .before .if1 .taken) in
+    for-wanted asked _ (found-at t q (l .i) _ here within (c .index-of .ensures)
+    (ap kind-of (any-default (t .slots) (l .i) _ free (omega (arith, all (asked .before), c .before .before .before .before .before .before .before .before .slot-count .ensures)) ∙ sym (counted-at t (l .i) free within))))
 
 add-i : tie.Need-add-i Inv-loop μ-loop
 add-i c = omega arith
@@ -60,18 +66,21 @@ loop-less c = omega arith
 
 loop-again : tie.Need-loop-again Inv-loop μ-loop
 loop-again c =
-    let args = c .before .before .before .before .before .before .args in
+    let asked = c .before .before .before .before .before .before in
+    let t = asked .before .args .t1 in
     let l = c .before .before .before .before .loop in
-    let q = passes (args .wanted) in
-    pass q (counted (args .t1)) (l .inv) _ (omega arith)
-    (ap q (counted-at (args .t1) (l .i) _ (omega arith)) ∙ sym (c .before .is-wanted .ensures) ∙ c .if1 .left)
+    let q = fits (asked .as-asked .result) in
+    pass q (counted t) (l .inv) _ (omega arith)
+    (ap q (counted-at t (l .i) _ (omega arith)) ∙ sym (c .before .is-wanted .ensures) ∙ c .if1 .left)
 
 returns-2 : tie.Need-returns-2 Inv-loop μ-loop
 returns-2 c =
-    let args = c .before .before .before .before .args in
+    let asked = c .before .before .before .before in
+    let t = asked .before .args .t1 in
     let l = c .before .before .loop in
-    let past = end (passes (args .wanted)) (counted (args .t1)) (l .inv) free (c .before .loop-test .left) in
-    found-none (args .t1) (passes (args .wanted)) (l .i) past (omega (arith, l .inv .count, c .before .loop-test .left))
+    let q = fits (asked .as-asked .result) in
+    let past = end q (counted t) (l .inv) free (c .before .loop-test .left) in
+    for-wanted asked _ (found-none t q (l .i) past (omega (arith, l .inv .count, c .before .loop-test .left)))
 
 pub find-spec : {M : Type 1} → statement M
 find-spec =
@@ -79,6 +88,7 @@ find-spec =
     (tie.spec
     Inv-loop
     μ-loop
+    (λ c κs. tt)
     (λ c κs. tt)
     loop-holds
     mul-x

@@ -4,13 +4,13 @@ use Rattle.value_slots.proofs.is_wanted.Statement.{statement}
 use Rattle.value_slots.proofs.is_wanted.Tie as tie
 
 returns-2 : tie.Need-returns-2
-returns-2 c = rw (c .before .before .before .wanted .given .1, c .before .if1 .taken, c .equal .ensures)
+returns-2 c = rw (c .before .before .before .asked .given .1, c .before .if1 .taken, c .has-normal .ensures)
 
 returns-3 : tie.Need-returns-3
-returns-3 c = rw (c .before .before .wanted .given .1, c .if1 .left)
+returns-3 c = rw (c .before .before .asked .given .1, c .if1 .left)
 
 returns-4 : tie.Need-returns-4
-returns-4 c = rw (c .before .before .before .wanted2 .given .1, c .before .if2 .taken, c .overlaps .ensures)
+returns-4 c = rw (c .before .before .before .asked2 .given .1, c .before .if2 .taken, c .overlaps .ensures)
 
 pub is-wanted-spec : {M : Type 1} → statement M
 is-wanted-spec =

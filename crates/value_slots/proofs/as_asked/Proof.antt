@@ -1,0 +1,22 @@
+-- `value_slots::as_asked` meets its contract.
+use borrow.Author.Needs.{needs}
+use Rattle.value_slots.proofs.as_asked.Statement.{statement}
+use Rattle.value_slots.proofs.as_asked.Tie as tie
+
+returns-2 : tie.Need-returns-2
+returns-2 c = rw (c .before .before .wanted .given .1, c .normal .ensures)
+
+returns-3 : tie.Need-returns-3
+returns-3 c = rw (c .before .wanted2 .given .1)
+
+pub as-asked-spec : {M : Type 1} → statement M
+as-asked-spec =
+    tie.close
+    (tie.spec
+    (λ c. search needs)
+    (λ c. search needs)
+    (λ c κs. tt)
+    (λ c. search needs)
+    (λ c. search needs)
+    returns-2
+    returns-3)
