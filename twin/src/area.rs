@@ -6,12 +6,18 @@ pub const ELLIPSE: u64 = 2;
 
 pub const LATITUDE_BOUND: i128 = 900_000_000;
 pub const LONGITUDE_BOUND: i128 = 1_800_000_000;
+pub const WEST_END: i128 = -LONGITUDE_BOUND;
+pub const EAST_END: i128 = LONGITUDE_BOUND;
 pub const LONGEST_DISTANCE: u64 = 65_535;
 pub const LARGEST_ANGLE: u64 = 359;
+pub const FULL_TURN: u64 = LARGEST_ANGLE + 1;
 
 /// The six numbers of an area, wide enough for every number that a day file
 /// can hold: one that fits no narrow type answers 2, never 14
 /// (`record-too-wide`).
+///
+/// `==` asks for the same six numbers, as two calls or two tables are compared.
+/// Whether two areas are equal is asked by [`equals`](Area::equals).
 #[derive(Clone, Copy, Debug, PartialEq, Eq)]
 pub struct Area {
     pub shape: u64,
@@ -32,6 +38,22 @@ impl Area {
             && (1..=LONGEST_DISTANCE).contains(&self.a)
             && (shortest_b..=LONGEST_DISTANCE).contains(&self.b)
             && self.angle <= LARGEST_ANGLE
+    }
+
+    /// So many degrees added to the angle, modulo 360.
+    pub fn turned(&self, degrees: u64) -> Area {
+        Area { angle: (self.angle + degrees) % FULL_TURN, ..*self }
+    }
+
+    /// a and b exchanged.
+    pub fn exchanged(&self) -> Area {
+        Area { a: self.b, b: self.a, ..*self }
+    }
+
+    /// For an area at one end of the longitudes, the same at the other.
+    pub fn at_the_other_end(&self) -> Option<Area> {
+        let at_an_end = [WEST_END, EAST_END].contains(&self.longitude);
+        at_an_end.then(|| Area { longitude: -self.longitude, ..*self })
     }
 }
 
@@ -99,16 +121,20 @@ mod tests {
     }
 
     #[test]
-    fn all_six_numbers_count_in_equality() {
-        let circle = Area { shape: CIRCLE, ..GOOD };
-        assert_eq!(circle, circle);
-        assert_ne!(circle, Area { shape: ELLIPSE, ..circle });
-        assert_ne!(circle, Area { latitude: 1, ..circle });
-        assert_ne!(circle, Area { longitude: -1, ..circle });
-        assert_ne!(circle, Area { a: 2, ..circle });
-        assert_ne!(circle, Area { b: 2, ..circle });
-        assert_ne!(circle, Area { angle: 1, ..circle });
-        let west = Area { longitude: -1_800_000_000, ..circle };
-        assert_ne!(west, Area { longitude: 1_800_000_000, ..circle });
+    fn turns_stay_below_360() {
+        let at = |angle| Area { angle, ..GOOD };
+        assert_eq!(at(269).turned(90), at(359));
+        assert_eq!(at(270).turned(90), at(0));
+        assert_eq!(at(359).turned(270), at(269));
+    }
+
+    #[test]
+    fn only_an_end_has_another_end() {
+        let at = |longitude| Area { longitude, ..GOOD };
+        assert_eq!(at(1_800_000_000).at_the_other_end(), Some(at(-1_800_000_000)));
+        assert_eq!(at(-1_800_000_000).at_the_other_end(), Some(at(1_800_000_000)));
+        for longitude in [0, 1_799_999_999, -1_799_999_999, 1_800_000_001, i128::MIN] {
+            assert_eq!(at(longitude).at_the_other_end(), None);
+        }
     }
 }

@@ -75,7 +75,7 @@ impl Table {
     }
 
     fn stop_with_area(&self, area: &Area) -> Option<u64> {
-        self.stops.iter().find(|(_, stop)| stop.area == *area).map(|(&index, _)| index)
+        self.stops.iter().find(|(_, stop)| stop.area.equals(area)).map(|(&index, _)| index)
     }
 
     fn stop_holding(&self, address: &Address) -> Option<u64> {

@@ -4,6 +4,7 @@ use std::fs;
 use std::path::{Path, PathBuf};
 use std::time::Duration;
 
+use crate::alike;
 use crate::generate::day_file;
 use crate::generate::random::Random;
 use crate::listing::{lines, print, RecordKind};
@@ -80,7 +81,7 @@ fn number_of(name: &str, value: Option<&String>) -> Result<u64, String> {
     text.parse().map_err(|_| format!("{name} needs a number, not {text}"))
 }
 
-/// Files, pairs and situations that passed and failed.
+/// Files, pairs, situations and likenesses that passed and failed.
 #[derive(Default)]
 struct Score {
     passed: u64,
@@ -108,12 +109,14 @@ pub fn run(options: &Options) -> bool {
     let mut score = Score::default();
     let mut seen = Seen::default();
     let mut counts = Counts::default();
+    let mut alike = alike::Counts::default();
     let mut files = 0;
     while files < options.files && score.failed < MOST_FAILURES {
         let input = day_file(options.seed, files);
         let own_lines = lines(&input);
         seen.add(&own_lines);
         counts.add(&input);
+        alike.add(&input, &own_lines);
         let outcome = agree(options, files, &input, &print(&own_lines));
         if let Err(difference) = &outcome {
             tell_failure(options.seed, files, &input, difference);
@@ -127,6 +130,7 @@ pub fn run(options: &Options) -> bool {
     println!("seed {}, {} files, {} records listed", options.seed, files, seen.records());
     report_pairs(&seen, &mut score);
     report_situations(&counts, &mut score);
+    report_likenesses(&alike, &mut score);
     println!("{} passed, {} failed", score.passed, score.failed);
     score.failed == 0
 }
@@ -195,6 +199,13 @@ fn report_situations(counts: &Counts, score: &mut Score) {
     for (situation, count) in counts.rows() {
         let kind = name_of_kind(RecordKind::Known(situation.kind));
         score.count_seen(&format!("{kind:<16} {:<28}", situation.name()), *count);
+    }
+}
+
+fn report_likenesses(counts: &alike::Counts, score: &mut Score) {
+    println!("{:<16} {:<60} {:>9}", "record", "areas compared", "count");
+    for row in counts.rows() {
+        score.count_seen(&format!("{:<16} {:<60}", row.caller.name(), row.way.name()), row.count);
     }
 }
 

@@ -5,6 +5,7 @@
 pub mod area;
 pub mod arriving;
 pub mod call;
+pub mod ground;
 pub mod leaving;
 pub mod link;
 pub mod mid;
@@ -20,6 +21,7 @@ pub mod replay;
 pub mod requests;
 pub mod write;
 
+pub mod alike;
 pub mod compare;
 pub mod conditions;
 pub mod edges;

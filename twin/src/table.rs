@@ -99,7 +99,7 @@ impl Table {
             return Err(Refusal::PrefixNotGood);
         }
         // Only enabled stop links are asked, not the DGVL (`link-apart`).
-        if self.stops.values().any(|stop| stop.area == settings.area) {
+        if self.stops.values().any(|stop| stop.area.equals(&settings.area)) {
             return Err(Refusal::AreaEqualToAStops);
         }
         if self.stops.values().any(|stop| stop.prefix.overlaps(&settings.prefix)) {

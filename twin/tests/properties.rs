@@ -80,7 +80,8 @@ fn tables_keep_what_the_rules_say_of_them() {
             assert!(stops.iter().all(|stop| stop.area.is_good() && stop.prefix.is_good()));
             for (place, stop) in stops.iter().enumerate() {
                 for other in &stops[place + 1..] {
-                    assert!(stop.area != other.area && !stop.prefix.overlaps(&other.prefix));
+                    assert!(!stop.area.equals(&other.area));
+                    assert!(!stop.prefix.overlaps(&other.prefix));
                 }
             }
         });

@@ -1,12 +1,13 @@
 //! What the generated day files reach: every allowed pair, every order of
-//! refusals and cause of one, and the situations within a pair that a listing
-//! could get wrong.
+//! refusals and cause of one, every way in which areas are alike, and the
+//! situations within a pair that a listing could get wrong.
 
 use std::collections::BTreeMap;
 
+use twin::alike;
 use twin::arriving::Indication;
 use twin::call::{Call, Destination, TSB};
-use twin::generate::day_file;
+use twin::generate::{day_file, FILES_OF_A_ROUND};
 use twin::leaving::Request;
 use twin::listing::{lines, MOST_INPUT};
 use twin::orders::Counts;
@@ -32,7 +33,7 @@ impl Situations {
                 self.add(format!("prefix length {}", settings.prefix.length));
                 let gap = table.stops.keys().any(|&index| Some(index) > answer.link);
                 self.add(if gap { "enabled within a gap" } else { "enabled behind all" });
-                let of_dgvl = table.dgvl_area == Some(settings.area);
+                let of_dgvl = table.dgvl_area.is_some_and(|area| area.equals(&settings.area));
                 self.add(if of_dgvl { "stop with the DGVL's area" } else { "stop's own area" });
             }
             Call::Indication(indication) if answer.reply == 0 => {
@@ -143,6 +144,22 @@ fn the_files_reach_every_order_and_cause() {
         for (situation, count) in counts.rows() {
             let (kind, name) = (situation.kind, situation.name());
             assert!(*count > 0, "seed {seed}, kind {kind}: {name}");
+        }
+    }
+}
+
+/// One round is enough, since two of its files go through the ways one by one.
+#[test]
+fn the_files_reach_every_way_in_which_areas_are_alike() {
+    for seed in [1, 2, 3, 7, 42, u64::MAX] {
+        let mut counts = alike::Counts::default();
+        for number in 0..FILES_OF_A_ROUND {
+            let day = day_file(seed, number);
+            counts.add(&day, &lines(&day));
+        }
+        for row in counts.rows() {
+            let (caller, name) = (row.caller.name(), row.way.name());
+            assert!(row.count > 0, "seed {seed}, {caller}: {name}");
         }
     }
 }

@@ -3,11 +3,11 @@ use Prim.Native.Nat.{ℕ, _-_, _^_}
 use mathlib.Core.Path.{_≡_}
 use mathlib.Core.Bool.{Bool, true, false}
 use mathlib.Core.List.{List, [], _∷_, _++_}
-use lib.IntN.{pos}
+use lib.IntN.{ℤ, pos, negℤ}
 use lib.ListN.{take, drop, replicate}
 use Rattle.octets.specs.Digits.{digits}
 use Rattle.area.specs.declared.Area.{Area}
-use Rattle.area.specs.Area.{goodArea}
+use Rattle.area.specs.Area.{goodArea, sameNumbers}
 use Rattle.prefix.specs.Prefix.{noPrefix}
 use Rattle.links.specs.declared.PerhapsLink.{PerhapsLink}
 use Rattle.links.specs.declared.PerhapsLink.the-variants.{Link, Nothing}
@@ -19,7 +19,7 @@ use Rattle.ipv6.specs.declared.PerhapsMid.{PerhapsMid}
 use Rattle.ipv6.specs.declared.PerhapsMid.the-variants.{Mid, Nothing as NoMid}
 use Rattle.ipv6.specs.Identifier.{linkLocal, midOf}
 use Rattle.traffic.specs.declared.Destination.{Destination}
-use Rattle.traffic.specs.declared.Destination.the-variants.{Within, Nothing as NoDestination}
+use Rattle.traffic.specs.declared.Destination.the-variants.{Mid as ToMid, Within, Nothing as NoDestination}
 use Rattle.traffic.specs.declared.Reception.{Reception}
 use Rattle.traffic.specs.declared.Sending.{Sending}
 use Rattle.traffic.specs.Arrives.{receive}
@@ -51,10 +51,6 @@ abbrev pub midOrZero : PerhapsMid → ℕ
 midOrZero (Mid m) = m
 midOrZero NoMid = 0
 
--- an area at 0, 0 with a = 1
-abbrev pub shaped : ℕ → ℕ → ℕ → Area
-shaped shape b angle = record { shape = shape; latitude = pos 0; longitude = pos 0; a = 1; b = b; angle = angle }
-
 -- a packet of n bytes from fe80::1 to ff02::1: of its header as much as there is room for
 abbrev pub packet : ℕ → List ℕ
 packet n =
@@ -79,13 +75,20 @@ abbrev pub startWith : ℕ → Reply
 startWith max = startByValue (record { own = 1; max = max; tvl = plain; dgvl = plain })
 
 -- a packet that arrives: its source MID, its transport and destination, and the room that is lent
-abbrev pub arriving : ℕ → ℕ → Destination → ℕ → List ℕ → Reception
-arriving source transport to room p =
-    receive (startWith 65 .table) (record { transport = transport; source = source; class = 0; destination = to; packet = p }) (replicate room 0) .reply
+abbrev pub arrivingOn : Table → ℕ → ℕ → Destination → ℕ → List ℕ → Reception
+arrivingOn t source transport to room p =
+    receive t (record { transport = transport; source = source; class = 0; destination = to; packet = p }) (replicate room 0) .reply
 
 -- one that leaves: the index of its link, and perhaps a neighbour's MID
+abbrev pub leavingOn : Table → ℕ → PerhapsMid → List ℕ → Sending
+leavingOn t index neighbour p = send t (record { index = record { 0 = index }; class = 0; neighbour = neighbour; packet = p })
+
+-- on a table without a stop
+abbrev pub arriving : ℕ → ℕ → Destination → ℕ → List ℕ → Reception
+arriving source transport to room p = arrivingOn (startWith 65 .table) source transport to room p
+
 abbrev pub leaving : ℕ → PerhapsMid → List ℕ → Sending
-leaving index neighbour p = send (startWith 65 .table) (record { index = record { 0 = index }; class = 0; neighbour = neighbour; packet = p })
+leaving index neighbour p = leavingOn (startWith 65 .table) index neighbour p
 
 -- number and place of a packet: by TSB, where room is lent for every packet, and on the TVL
 abbrev pub answered : List ℕ → List ℕ
@@ -106,13 +109,59 @@ abbrev pub given : Table → List TableCall → List ℕ
 given t [] = []
 given t (c ∷ cs) = indexOrZero (reply t c .link) ∷ given (reply t c .table) cs
 
--- a stop: a circle of radius n, no prefix
+-- areas by a, b and angle, at 0, 0; and elsewhere
+abbrev pub circle : ℕ → ℕ → ℕ → Area
+circle a b angle = record { shape = 0; latitude = pos 0; longitude = pos 0; a = a; b = b; angle = angle }
+
+abbrev pub rectangle : ℕ → ℕ → ℕ → Area
+rectangle a b angle = record { shape = 1; latitude = pos 0; longitude = pos 0; a = a; b = b; angle = angle }
+
+abbrev pub ellipse : ℕ → ℕ → ℕ → Area
+ellipse a b angle = record { shape = 2; latitude = pos 0; longitude = pos 0; a = a; b = b; angle = angle }
+
+abbrev pub centred : ℤ → ℤ → Area → Area
+centred latitude longitude x = record { shape = x .shape; latitude = latitude; longitude = longitude; a = x .a; b = x .b; angle = x .angle }
+
+-- the ends of the longitude range
+abbrev pub west : ℤ
+west = negℤ (pos 1_800_000_000)
+
+abbrev pub east : ℤ
+east = pos 1_800_000_000
+
+-- a stop: no prefix
+abbrev pub stopAt : Area → Settings
+stopAt x = record { area = x; prefix = noPrefix; interface = plain }
+
 abbrev pub stop : ℕ → Settings
-stop n = record {
-  area = record { shape = 0; latitude = pos 0; longitude = pos 0; a = n; b = 0; angle = 0 };
-  prefix = noPrefix;
-  interface = plain;
-}
+stop n = stopAt (circle n 0 0)
+
+-- a table with this stop alone, which is link 2
+abbrev pub only : Area → Table
+only x = reply (startWith 65 .table) (enable (stopAt x)) .table
+
+-- a second enable beside it, by number and link, and the link of a broadcast
+abbrev pub beside : Area → Area → List ℕ
+beside x y =
+    reply (only x) (enable (stopAt y)) .number
+    ∷ indexOrZero (reply (only x) (enable (stopAt y)) .link)
+    ∷ indexOrZero (arrivingOn (only x) 2 3 (Within y) 1294 (packet 40) .link)
+    ∷ []
+
+-- the same ground: 4, and the broadcast arrives on the stop; not the same: link 3, and the DGVL
+infix 18 _equals_
+infix 18 _differs-from_
+abbrev pub _equals_ : Area → Area → Row
+x equals y = beside x y are (4 ∷ 0 ∷ 2 ∷ [])
+
+abbrev pub _differs-from_ : Area → Area → Row
+x differs-from y = beside x y are (0 ∷ 3 ∷ 1 ∷ [])
+
+-- a destination is this very area
+abbrev pub isVery : Destination → Area → Bool
+isVery (ToMid m) x = false
+isVery (Within y) x = sameNumbers y x
+isVery NoDestination x = false
 
 unfoldable pub rows : List Row
 rows =
@@ -128,10 +177,33 @@ rows =
     ∷ (linkLocal 0x020000000001 are (0xfe ∷ 0x80 ∷ replicate 9 0 ++ 0xff ∷ 0xfe ∷ 0 ∷ 0 ∷ 1 ∷ []))
     ∷ (midOrZero (midOf (linkLocal 0x020000000001)) is 0x020000000001)
     -- edge-area: angle 359 good, 360 not; ellipse with b = 0 not, circle with b = 0 good
-    ∷ (says (goodArea (shaped 1 1 359)) is 1)
-    ∷ (says (goodArea (shaped 1 1 360)) is 0)
-    ∷ (says (goodArea (shaped 2 0 0)) is 0)
-    ∷ (says (goodArea (shaped 0 0 0)) is 1)
+    ∷ (says (goodArea (rectangle 1 1 359)) is 1)
+    ∷ (says (goodArea (rectangle 1 1 360)) is 0)
+    ∷ (says (goodArea (ellipse 1 0 0)) is 0)
+    ∷ (says (goodArea (circle 1 0 0)) is 1)
+    -- edge-ground: what is the same ground
+    ∷ (circle 5 0 0 equals circle 5 7 200)
+    ∷ (rectangle 3 5 10 equals rectangle 3 5 190)
+    ∷ (ellipse 3 5 10 equals ellipse 3 5 190)
+    ∷ (rectangle 3 5 10 equals rectangle 5 3 100)
+    ∷ (rectangle 3 5 300 equals rectangle 5 3 30)
+    ∷ (ellipse 5 5 77 equals circle 5 0 0)
+    ∷ (rectangle 5 5 0 equals rectangle 5 5 90)
+    ∷ (rectangle 5 5 0 equals rectangle 5 5 180)
+    ∷ (rectangle 5 5 0 equals rectangle 5 5 270)
+    ∷ (centred (pos 0) west (rectangle 3 5 10) equals centred (pos 0) east (rectangle 3 5 10))
+    ∷ (centred (pos 0) east (ellipse 5 5 77) equals centred (pos 0) west (ellipse 5 5 12))
+    -- and what is not
+    ∷ (rectangle 5 5 0 differs-from circle 5 5 0)
+    ∷ (rectangle 5 5 0 differs-from ellipse 5 5 0)
+    ∷ (rectangle 3 5 10 differs-from rectangle 3 5 11)
+    ∷ (rectangle 3 5 10 differs-from rectangle 3 6 10)
+    ∷ (rectangle 3 5 10 differs-from centred (pos 1) (pos 0) (rectangle 3 5 10))
+    ∷ (rectangle 3 5 10 differs-from rectangle 5 3 10)
+    ∷ (rectangle 3 5 10 differs-from rectangle 3 5 100)
+    ∷ (centred (pos 900_000_000) (pos 0) (circle 5 0 0) differs-from centred (pos 900_000_000) (pos 1) (circle 5 0 0))
+    -- edge-given: a request goes to the area as it was given
+    ∷ (says (isVery (leavingOn (only (centred (pos 0) east (ellipse 5 5 77))) 2 NoMid (packet 40) .destination) (centred (pos 0) east (ellipse 5 5 77))) is 1)
     -- edge-packet: 39, 40, 1,280 and 1,281 bytes: 20 at 39, good, good, 9
     ∷ (answered (packet 39) are 20 at 39)
     ∷ (answered (packet 40) are 0 at 0)
@@ -147,8 +219,8 @@ rows =
     ∷ (answered (fromLoopback (packet 40)) are 10 at 0)
     ∷ (answered (versionFive (wrongLength (fromLoopback (packet 1281)))) are 9 at 0)
     -- edge-order: what comes before the packet, and what behind it
-    ∷ (arriving (2 ^ 48) 3 (Within (shaped 1 1 360)) 1294 (packet 40) .number is 1)
-    ∷ (arriving 2 3 (Within (shaped 1 1 360)) 1294 (packet 39) .number is 2)
+    ∷ (arriving (2 ^ 48) 3 (Within (rectangle 1 1 360)) 1294 (packet 40) .number is 1)
+    ∷ (arriving 2 3 (Within (rectangle 1 1 360)) 1294 (packet 39) .number is 2)
     ∷ (arriving 2 4 NoDestination 0 (packet 39) .number is 20)
     ∷ (leaving 5 (Mid (2 ^ 48)) (packet 40) .number is 1)
     ∷ (leaving 5 NoMid (packet 39) .number is 7)

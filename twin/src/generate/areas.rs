@@ -1,9 +1,10 @@
-//! Areas: good ones, ones at the bounds, ones that differ from another in one
-//! number by one, and bad ones.
+//! Areas: good ones, ones at the bounds, other descriptions of a ground, ones that
+//! differ from another in one number by one, and bad ones.
 
 use super::random::Random;
 use super::values::wide_alias;
 use crate::area::{Area, CIRCLE, LATITUDE_BOUND, LONGITUDE_BOUND};
+use crate::ground::one_change_away;
 
 /// A good area.
 pub fn fresh(random: &mut Random) -> Area {
@@ -31,6 +32,31 @@ pub fn at_the_bounds(random: &mut Random) -> Area {
         b: random.pick(&[shortest_b, shortest_b + 1, 127, 128, 65_534, 65_535]),
         angle: random.pick(&[0, 1, 127, 128, 255, 256, 358, 359]),
     }
+}
+
+pub fn good(random: &mut Random) -> Area {
+    match random.percent(60) {
+        true => at_the_bounds(random),
+        false => fresh(random),
+    }
+}
+
+/// A good area of this shape.
+pub fn of_shape(random: &mut Random, shape: u64) -> Area {
+    let area = good(random);
+    let shortest_b = u64::from(shape != CIRCLE);
+    Area { shape, b: area.b.max(shortest_b), ..area }
+}
+
+/// A good area that a few changes, one after the other, make of this good one.
+pub fn described_otherwise(random: &mut Random, area: &Area) -> Area {
+    let mut other = *area;
+    for _ in 0..random.between(1, 4) {
+        let (before, free) = (other, fresh(random));
+        let changed: Vec<Area> = one_change_away(&before, &free).collect();
+        other = random.pick(&changed);
+    }
+    other
 }
 
 /// The area with the number at this place, of six, one up or down. It may be
@@ -96,7 +122,8 @@ pub fn any(random: &mut Random, known: &[Area], bad: u64) -> Area {
     match random.below(10) {
         0..=3 => fresh(random),
         4 => at_the_bounds(random),
-        5..=7 => base,
+        5 | 6 => base,
+        7 => described_otherwise(random, &base),
         _ => {
             let (place, up) = (random.below(6), random.percent(50));
             one_apart(&base, place, up)
@@ -121,6 +148,19 @@ mod tests {
             assert!(!bad.is_good(), "{bad:?}");
             assert!(record_bytes(&Call::DgvlArea(Some(twice))).is_some(), "{twice:?}");
         }
+    }
+
+    #[test]
+    fn other_descriptions_are_equal_to_the_first() {
+        let mut random = Random::new(7);
+        let mut others = 0;
+        for _ in 0..2_000 {
+            let area = good(&mut random);
+            let other = described_otherwise(&mut random, &area);
+            assert!(area.equals(&other), "{area:?} {other:?}");
+            others += u64::from(area != other);
+        }
+        assert!(others > 1_500, "only {others} in other numbers");
     }
 
     #[test]

@@ -3,9 +3,12 @@
 //! share, since each of them can be broken in one place only.
 
 pub mod areas;
+pub mod compared;
 pub mod damage;
 pub mod day;
 pub mod faults;
+pub mod joined;
+pub mod near;
 pub mod noise;
 pub mod packets;
 pub mod prefixes;
@@ -17,7 +20,7 @@ pub mod values;
 use crate::table::LARGEST_MAXIMUM;
 use random::Random;
 
-pub const FILES_OF_A_ROUND: u64 = 27;
+pub const FILES_OF_A_ROUND: u64 = 29;
 
 /// The file of this number under this seed.
 pub fn day_file(seed: u64, number: u64) -> Vec<u8> {
@@ -29,17 +32,19 @@ pub fn day_file(seed: u64, number: u64) -> Vec<u8> {
         }
         1 => themes::full_table(random, LARGEST_MAXIMUM).into_bytes(),
         2 => themes::near_areas(random).into_bytes(),
-        3 | 4 => themes::prefix_lengths(random).into_bytes(),
-        5 | 6 => themes::packet_bounds(random).into_bytes(),
-        7 => themes::requests(random).into_bytes(),
-        8 => themes::out_of_range(random).into_bytes(),
-        9 => themes::starts(random).into_bytes(),
-        10 | 11 => themes::mixed(random).into_bytes(),
-        12 => faults::several_faults(random).into_bytes(),
-        13..=21 => damage::damaged(random),
-        22 => noise::bytes_changed(random),
-        23 => noise::cut_or_shifted(random),
-        24 => noise::formless(random),
+        3 => compared::joined_areas(random).into_bytes(),
+        4 => compared::near_misses(random).into_bytes(),
+        5 | 6 => themes::prefix_lengths(random).into_bytes(),
+        7 | 8 => themes::packet_bounds(random).into_bytes(),
+        9 => themes::requests(random).into_bytes(),
+        10 => themes::out_of_range(random).into_bytes(),
+        11 => themes::starts(random).into_bytes(),
+        12 | 13 => themes::mixed(random).into_bytes(),
+        14 => faults::several_faults(random).into_bytes(),
+        15..=23 => damage::damaged(random),
+        24 => noise::bytes_changed(random),
+        25 => noise::cut_or_shifted(random),
+        26 => noise::formless(random),
         _ => sizes::around_the_limit(random),
     }
 }

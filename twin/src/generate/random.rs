@@ -37,6 +37,11 @@ impl Random {
         lowest + self.below(highest - lowest + 1)
     }
 
+    /// A number up to the largest, which is above 0, but not this one.
+    pub fn other(&mut self, than: u64, largest: u64) -> u64 {
+        (than + self.between(1, largest)) % (largest + 1)
+    }
+
     pub fn percent(&mut self, chance: u64) -> bool {
         self.below(100) < chance
     }
@@ -87,6 +92,7 @@ mod tests {
         for _ in 0..1_000 {
             let number = random.between(10, 14);
             seen[(number - 10) as usize] = true;
+            assert!(random.other(number, 14) != number);
             assert!(random.weighted(&[0, 3, 0]) == 1);
             assert!(random.below(1) == 0);
         }

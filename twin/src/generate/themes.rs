@@ -72,11 +72,7 @@ pub fn near_areas(random: Random) -> Day {
     let mut day = Day::new(random, 0);
     day.good_start(LARGEST_MAXIMUM);
     for _ in 0..6 {
-        let at_the_bounds = day.random.percent(60);
-        let base = match at_the_bounds {
-            true => areas::at_the_bounds(&mut day.random),
-            false => areas::fresh(&mut day.random),
-        };
+        let base = areas::good(&mut day.random);
         day.enable_with(base, NO_PREFIX);
         for place in 0..6 {
             for up in [false, true] {

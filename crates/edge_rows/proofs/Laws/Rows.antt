@@ -6,16 +6,16 @@ use lib.Dec.{T}
 use Rattle.octets.specs.Digits.{digits, number, bits}
 use Rattle.octets.specs.Runs.{same, allZero}
 use Rattle.octets.proofs.Laws.Runs.{same-true}
-use Rattle.area.specs.Area.{goodArea, sameArea}
+use Rattle.area.specs.Area.{goodArea, normal, sameNumbers, hasNormal, sameArea}
 use Rattle.prefix.specs.Prefix.{agrees, holdsPrefix, overlap, goodPrefix}
 use Rattle.links.specs.Settings.{interfaceOk, settingsValues, groundRules, settingsRules, sameGround, overlaps}
 use Rattle.links.specs.Slots.{any, place}
-use Rattle.links.specs.Index.{enabledAt}
+use Rattle.links.specs.Index.{areaAt, enabledAt}
 use Rattle.links.specs.Calls.{slotRules, rules, linkAfter, tableAfter, reply, startValues, cleared, fresh, start}
 use Rattle.ipv6.specs.Address.{multicast}
 use Rattle.ipv6.specs.Packet.{forbidden, packetRules, faultPlace}
-use Rattle.traffic.specs.Arrives.{indicationValues, contentRules, choiceRules, roomRules, indicationRules, receive}
-use Rattle.traffic.specs.Leaves.{requestValues, linkRules, resolveRules, requestRules, send}
+use Rattle.traffic.specs.Arrives.{indicationValues, contentRules, choiceRules, roomRules, indicationRules, stopBy, byArea, byDestination, bySource, choose, receive}
+use Rattle.traffic.specs.Leaves.{requestValues, linkRules, resolveRules, requestRules, down, send}
 use Rattle.ipv6.specs.Identifier.{flipped, identifier, linkLocal, fromMac, midOfIdentifier, midOf}
 use Rattle.edge_rows.specs.Rows.{Row, Hold, rows, Edges}
 
@@ -34,5 +34,5 @@ by-test (r ∷ rs) h = step (same (r .got) (r .want)) refl (by-test rs) h
     step false e f h = absurd h
 
 pub edges : Edges
-unfolding Edges rows test same allZero digits number bits goodArea sameArea agrees holdsPrefix overlap goodPrefix interfaceOk settingsValues groundRules settingsRules sameGround overlaps any place enabledAt slotRules rules linkAfter tableAfter reply startValues cleared fresh start multicast forbidden packetRules faultPlace flipped identifier linkLocal fromMac midOfIdentifier midOf indicationValues contentRules choiceRules roomRules indicationRules receive requestValues linkRules resolveRules requestRules send
+unfolding Edges rows test same allZero digits number bits goodArea normal sameNumbers hasNormal sameArea agrees holdsPrefix overlap goodPrefix interfaceOk settingsValues groundRules settingsRules sameGround overlaps any place areaAt enabledAt slotRules rules linkAfter tableAfter reply startValues cleared fresh start multicast forbidden packetRules faultPlace flipped identifier linkLocal fromMac midOfIdentifier midOf indicationValues contentRules choiceRules roomRules indicationRules stopBy byArea byDestination bySource choose receive requestValues linkRules resolveRules requestRules down send
 edges = by-test rows tt
