@@ -114,15 +114,15 @@ static struct cost cost_of(const struct day *d) {
     return x;
 }
 
-static struct day new_day(u64 stops) {
+static struct day new_day(u64 first, u64 stops) {
     struct day d = { malloc(LARGEST), 0 };
     put_start(&d, 65);
-    for (u64 s = 0; s < stops; s++) put_enable(&d, s);
+    for (u64 s = first; s < first + stops; s++) put_enable(&d, s);
     return d;
 }
 
 // What is appended to a day many times over: a record, or a few that belong together.
-enum work { AREA, PREFIX, SOURCE, TSB, REFUSED, SHORT, VERSION, LENGTH_FIELD, UNICAST, MULTICAST, GROUP_TVL, FIXED, AGAIN, OWN_MID, DGVL_AREA, IN_AND_OUT };
+enum work { AREA, OTHERWISE, PREFIX, SOURCE, TSB, REFUSED, SHORT, VERSION, LENGTH_FIELD, UNICAST, MULTICAST, GROUP_TVL, FIXED, AGAIN, OWN_MID, DGVL_AREA, IN_AND_OUT };
 
 static void put_work(struct day *d, enum work w, u64 stop, usize length) {
     static u8 p[1280];
@@ -133,9 +133,9 @@ static void put_work(struct day *d, enum work w, u64 stop, usize length) {
     if (w == LENGTH_FIELD) p[5]++;
     if (w == MULTICAST || w == GROUP_TVL) p[24] = 0xff;
     switch (w) {
-    case AREA: put_indication(d, 3, stop, p, length); break;
-    case PREFIX: case SOURCE: case REFUSED: case SHORT: case VERSION: case LENGTH_FIELD: put_indication(d, 1, 0, p, length); break;
-    case TSB: put_indication(d, 4, 0, p, length); break;
+    case AREA: case OTHERWISE: put_indication(d, 3, stop, w == OTHERWISE, p, length); break;
+    case PREFIX: case SOURCE: case REFUSED: case SHORT: case VERSION: case LENGTH_FIELD: put_indication(d, 1, 0, false, p, length); break;
+    case TSB: put_indication(d, 4, 0, false, p, length); break;
     case UNICAST: case MULTICAST: put_request(d, stop + 2, p, length); break;
     case GROUP_TVL: put_request(d, 0, p, length); break;
     case FIXED: put(d, 3), put(d, 0); break;
@@ -148,7 +148,8 @@ static void put_work(struct day *d, enum work w, u64 stop, usize length) {
 
 // The cost of one piece of work on a table with some stops enabled.
 static struct cost one(enum work w, u64 stops, u64 stop, usize length) {
-    struct day without_and_with[2] = { new_day(stops), new_day(stops) };
+    u64 first = stop < ROW ? 0 : ROW;
+    struct day without_and_with[2] = { new_day(first, stops), new_day(first, stops) };
     struct cost cost[2];
     for (int i = 0; i < MANY; i++) put_work(&without_and_with[1], w, stop, length);
     costs_of(without_and_with, 2, cost);
@@ -161,7 +162,7 @@ static struct cost unread(u64 transport, usize length) {
     static u8 p[1280];
     struct day d = { malloc(LARGEST), 0 };
     make_packet(p, length, 0, 0);
-    for (int i = 0; i < MANY; i++) put_indication(&d, transport, 0, p, length);
+    for (int i = 0; i < MANY; i++) put_indication(&d, transport, 0, false, p, length);
     struct cost x = cost_of(&d);
     x.c /= MANY;
     x.proved /= MANY;
@@ -169,7 +170,7 @@ static struct cost unread(u64 transport, usize length) {
 }
 
 static void print_table_calls(void) {
-    struct day d = new_day(64);
+    struct day d = new_day(0, 64);
     print_row("start and 64 enables (the whole day)", cost_of(&d));
     print_row("disable and enable, the last of 64", one(IN_AND_OUT, 64, 63, 40));
     print_row("own MID, 64 enabled", one(OWN_MID, 64, 0, 40));
@@ -180,6 +181,8 @@ static void print_indications(void) {
     print_row("indication by area, the first of 64", one(AREA, 64, 0, 40));
     print_row("indication by area, the last of 64", one(AREA, 64, 63, 40));
     print_row("indication by area, none of 64", one(AREA, 64, NO_STOP, 40));
+    print_row("by area in other numbers, the last of 64", one(OTHERWISE, 64, 63, 40));
+    print_row("by area, the last of 64 on one latitude", one(AREA, 64, ROW + 63, 40));
     print_row("indication by prefix, the first of 64", one(PREFIX, 64, 0, 40));
     print_row("indication by prefix, the last of 64", one(PREFIX, 64, 63, 40));
     print_row("indication by prefix of the source, the last of 64", one(SOURCE, 64, 63, 40));
@@ -218,7 +221,7 @@ static void print_growth(void) {
 // a seventh a buffer that is too short for some of the frames, or for all.
 static void compare_damaged_days(int count) {
     u64 seed = 1;
-    struct day d = new_day(5);
+    struct day d = new_day(0, 5);
     for (int w = AREA; w <= IN_AND_OUT; w++) put_work(&d, (enum work)w, (u64)w % 5, 40 + (usize)w);
     struct day e = { malloc(LARGEST), d.length };
     for (int i = 0; i < count; i++) {

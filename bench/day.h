@@ -25,6 +25,9 @@ side gn6_whole_day; // crates/whole_day
 // What is lent to a side: a buffer of the length that the rules name, and room for more lines than any day here has.
 enum { ROOM = 1294, NUMBERS = 4 * 2048 };
 
+// The first of the stops that stand on one latitude.
+enum { ROW = 2000 };
+
 // A day file as it is made (make.c).
 struct day { u8 *bytes; usize length; };
 
@@ -34,6 +37,6 @@ u64 count_of(side *replay, const struct day *d);
 void put(struct day *d, u64 number);
 void put_start(struct day *d, u64 max);
 void put_enable(struct day *d, u64 stop);
-void put_indication(struct day *d, u64 transport, u64 area, const u8 *packet, usize length);
+void put_indication(struct day *d, u64 transport, u64 area, bool otherwise, const u8 *packet, usize length);
 void put_request(struct day *d, u64 index, const u8 *packet, usize length);
 void make_packet(u8 *packet, usize length, u64 from_stop, u64 to_stop);

@@ -2,10 +2,9 @@
 //! anycasts and broadcasts each way in which the area of an enabled stop and the
 //! one that is given are joined, and each way in which they nearly are.
 //!
-//! A program that lacks a change lists two joined areas as if they were not: the
-//! enable is not 4, and what arrives goes to the DGVL. One with a change too many
-//! does the same to near misses the other way round. So where each way is seen,
-//! no such program goes unnoticed.
+//! A program that lacks a change does not list joined areas as equal: the enable is
+//! not 4, or what arrives goes to the DGVL. One with a change too many lists near
+//! misses as equal. So where each way is seen, a program that has it wrong fails.
 
 mod joined;
 mod near;
@@ -66,7 +65,8 @@ impl Way {
     }
 }
 
-/// Every way that must be seen. Several changes are those at the other end too.
+/// Every way that must be seen. Where the end differs besides, it takes several
+/// changes.
 fn ways() -> Vec<Way> {
     let way = |equal, other_end| move |likeness| Way { equal, other_end, likeness };
     let mut ways: Vec<Way> = joined::UNCHANGED.map(way(true, false)).into();

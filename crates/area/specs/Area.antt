@@ -44,13 +44,16 @@ described x shape a b angle = record {
 abbrev pub isRound : Area → Bool
 isRound x = eqb (x .shape) 0 || (eqb (x .shape) 2 && eqb (x .a) (x .b))
 
--- area-normal, line by line
-unfoldable pub normal : Area → Area
-normal x =
-    cond (isRound x) (described x 0 (x .a) 0 0)
-    (cond (eqb (x .a) (x .b)) (described x (x .shape) (x .a) (x .b) (x .angle % 90))
-    (cond (ltb (x .a) (x .b)) (described x (x .shape) (x .a) (x .b) (x .angle % 180))
+-- area-normal, line by line: by whether it is round, and how a and b compare
+unfoldable pub normalBy : Bool → Bool → Bool → Area → Area
+normalBy round equal below x =
+    cond round (described x 0 (x .a) 0 0)
+    (cond equal (described x (x .shape) (x .a) (x .b) (x .angle % 90))
+    (cond below (described x (x .shape) (x .a) (x .b) (x .angle % 180))
     (described x (x .shape) (x .b) (x .a) ((x .angle + 90) % 180))))
+
+unfoldable pub normal : Area → Area
+normal x = normalBy (isRound x) (eqb (x .a) (x .b)) (ltb (x .a) (x .b)) x
 
 -- the same six numbers
 unfoldable pub sameNumbers : Area → Area → Bool

@@ -79,11 +79,14 @@ fn same_numbers(x: Area, y: Area) -> bool
         & (x.angle == y.angle)
 }
 
-// A search asks for many areas, and most differ in their latitude, which a normal form keeps: it ends there.
+// A search asks for many areas, and most differ in their centre, which needs no normal form but for the ends: it stops there.
 pub fn has_normal(x: Area, n: Area) -> bool
     ensures { λ r. ⌜ r ≡ hasNormal x n ⌝ }
 {
     if x.latitude != n.latitude {
+        return false;
+    }
+    if normal_longitude(x.longitude) != n.longitude {
         return false;
     }
     same_numbers(normal(x), n)

@@ -7,7 +7,7 @@ use crate::area::{Area, CIRCLE, EAST_END, ELLIPSE, LATITUDE_BOUND, RECTANGLE, WE
 
 /// Some pairs of these forms are equal, such as those of both ends at a pole. They
 /// are not counted, since their records are listed as equal.
-pub const MISSED: [Likeness; 28] = [
+pub const MISSED: [Likeness; 30] = [
     ("rectangle, angle 1 more", angle_1_more::<RECTANGLE>),
     ("ellipse, angle 1 more", angle_1_more::<ELLIPSE>),
     ("rectangle, b 1 more", b_1_more::<RECTANGLE>),
@@ -33,8 +33,10 @@ pub const MISSED: [Likeness; 28] = [
     ("ellipse of equal axes to square", |stop, given| square_to_ellipse(given, stop)),
     ("rectangle to ellipse", rectangle_to_ellipse),
     ("ellipse to rectangle", |stop, given| rectangle_to_ellipse(given, stop)),
-    ("ellipse with axes one apart to circle", nearly_disc_to_circle),
-    ("circle to ellipse with axes one apart", |stop, given| nearly_disc_to_circle(given, stop)),
+    ("ellipse, b one above a, and circle of a", nearly_disc::<1, false>),
+    ("ellipse, b one above a, and circle of b", nearly_disc::<1, true>),
+    ("ellipse, b one below a, and circle of a", nearly_disc::<-1, false>),
+    ("ellipse, b one below a, and circle of b", nearly_disc::<-1, true>),
     ("one off the west end, and the east end", longitudes::<{ WEST_END + 1 }, EAST_END>),
     ("one off the east end, and the west end", longitudes::<{ EAST_END - 1 }, WEST_END>),
     ("two longitudes at the north pole", at_pole::<LATITUDE_BOUND>),
@@ -70,12 +72,16 @@ fn as_ellipse(stop: &Area, given: &Area) -> bool {
     stop.shape == RECTANGLE && *given == Area { shape: ELLIPSE, ..*stop }
 }
 
-/// The circle may have the one axis for its radius or the other.
-fn nearly_disc_to_circle(stop: &Area, given: &Area) -> bool {
-    let circle = Area { shape: CIRCLE, b: given.b, angle: given.angle, ..*stop };
-    stop.shape == ELLIPSE
-        && stop.a.abs_diff(stop.b) == 1
-        && [stop.a, stop.b].into_iter().any(|a| *given == Area { a, ..circle })
+/// In either order, an ellipse whose b is so much above its a, and the circle with
+/// one of the two for its radius.
+fn nearly_disc<const ABOVE: i128, const OF_B: bool>(stop: &Area, given: &Area) -> bool {
+    let is_pair = |ellipse: &Area, circle: &Area| {
+        let a = if OF_B { ellipse.b } else { ellipse.a };
+        ellipse.shape == ELLIPSE
+            && i128::from(ellipse.b) - i128::from(ellipse.a) == ABOVE
+            && *circle == Area { shape: CIRCLE, a, b: circle.b, angle: circle.angle, ..*ellipse }
+    };
+    is_pair(stop, given) || is_pair(given, stop)
 }
 
 /// The areas differ in nothing else and have these longitudes, in either order.

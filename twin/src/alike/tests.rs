@@ -113,48 +113,61 @@ fn equal_ones() {
     assert_eq!(names, ["equal: ellipse, west end to east end", "equal: both ends, at a pole"]);
 }
 
+fn assert_near_misses(rows: &[(Area, Area, &str)]) {
+    for (of_stop, given, name) in rows {
+        assert_eq!(names_of(*of_stop, *given), [format!("near miss: {name}")]);
+    }
+}
+
 #[test]
-fn near_misses() {
+fn near_misses_of_one_shape() {
     let (circle, square) = (area(CIRCLE, 5, 3, 20), area(RECTANGLE, 5, 5, 20));
     let (rectangle, ellipse) = (area(RECTANGLE, 3, 5, 10), area(ELLIPSE, 3, 5, 10));
-    let nearly_disc = area(ELLIPSE, 5, 6, 1);
-    for (of_stop, given, name) in [
+    assert_near_misses(&[
         (rectangle, area(RECTANGLE, 3, 5, 11), "rectangle, angle 1 more"),
         (ellipse, area(ELLIPSE, 3, 6, 10), "ellipse, b 1 more"),
         (rectangle, area(RECTANGLE, 4, 5, 10), "rectangle, a 1 more"),
-        (rectangle, at(1, 0, rectangle), "latitude 1 more"),
-        (ellipse, at(0, 1, ellipse), "longitude 1 more"),
         (ellipse, area(ELLIPSE, 5, 3, 10), "ellipse exchanged without the 90"),
         (rectangle, area(RECTANGLE, 3, 5, 100), "rectangle, 90 added without the exchange"),
+        (ellipse.turned(270), ellipse, "ellipse, 90 added without the exchange"),
         (circle, area(CIRCLE, 3, 5, 110), "circle exchanged, 90 added"),
         (circle, area(CIRCLE, 3, 3, 20), "circles of different a"),
+        (square, square.turned(45), "square turned by 45"),
+    ]);
+    let names = ["near miss: circle, a 1 more", "near miss: circles of different a"];
+    assert_eq!(names_of(circle, Area { a: 6, ..circle }), names);
+}
+
+#[test]
+fn near_misses_of_two_shapes() {
+    let (circle, square) = (area(CIRCLE, 5, 3, 20), area(RECTANGLE, 5, 5, 20));
+    let (rectangle, ellipse) = (area(RECTANGLE, 3, 5, 10), area(ELLIPSE, 3, 5, 10));
+    assert_near_misses(&[
         (square, circle, "square to circle"),
         (circle, square, "circle to square"),
         (square, area(ELLIPSE, 5, 5, 20), "square to ellipse of equal axes"),
         (area(ELLIPSE, 5, 5, 20), square, "ellipse of equal axes to square"),
         (rectangle, ellipse, "rectangle to ellipse"),
         (ellipse, rectangle, "ellipse to rectangle"),
-        (nearly_disc, circle, "ellipse with axes one apart to circle"),
-        (nearly_disc, area(CIRCLE, 6, 0, 0), "ellipse with axes one apart to circle"),
-        (circle, nearly_disc, "circle to ellipse with axes one apart"),
-        (
-            at(0, WEST_END + 1, circle),
-            at(0, EAST_END, circle),
-            "one off the west end, and the east end",
-        ),
-        (
-            at(0, WEST_END, circle),
-            at(0, EAST_END - 1, circle),
-            "one off the east end, and the west end",
-        ),
-        (at(NORTH, 5, square), at(NORTH, 7, square), "two longitudes at the north pole"),
+        (area(ELLIPSE, 5, 6, 1), circle, "ellipse, b one above a, and circle of a"),
+        (circle, area(ELLIPSE, 4, 5, 1), "ellipse, b one above a, and circle of b"),
+        (circle, area(ELLIPSE, 5, 4, 0), "ellipse, b one below a, and circle of a"),
+        (area(ELLIPSE, 6, 5, 0), circle, "ellipse, b one below a, and circle of b"),
+    ]);
+}
+
+#[test]
+fn near_misses_of_two_centres() {
+    let (circle, ellipse) = (area(CIRCLE, 5, 3, 20), area(ELLIPSE, 3, 5, 10));
+    let (west, east) = (at(0, WEST_END, circle), at(0, EAST_END, circle));
+    assert_near_misses(&[
+        (ellipse, at(1, 0, ellipse), "latitude 1 more"),
+        (ellipse, at(0, 1, ellipse), "longitude 1 more"),
+        (at(0, WEST_END + 1, circle), east, "one off the west end, and the east end"),
+        (west, at(0, EAST_END - 1, circle), "one off the east end, and the west end"),
+        (at(NORTH, 5, circle), at(NORTH, 7, circle), "two longitudes at the north pole"),
         (at(-NORTH, 5, ellipse), at(-NORTH, 3, ellipse), "two longitudes at the south pole"),
-        (square, square.turned(45), "square turned by 45"),
-    ] {
-        assert_eq!(names_of(of_stop, given), [format!("near miss: {name}")]);
-    }
-    let names = ["near miss: circle, a 1 more", "near miss: circles of different a"];
-    assert_eq!(names_of(circle, Area { a: 6, ..circle }), names);
+    ]);
 }
 
 #[test]

@@ -8,7 +8,7 @@ use crate::area::{
     WEST_END,
 };
 
-pub const MAKERS: [Maker; 24] = [
+pub const MAKERS: [Maker; 27] = [
     one_more::<RECTANGLE, ANGLE>,
     one_more::<ELLIPSE, ANGLE>,
     one_more::<RECTANGLE, B>,
@@ -27,7 +27,10 @@ pub const MAKERS: [Maker; 24] = [
     square_and_circle,
     square_and_ellipse,
     rectangle_and_ellipse,
-    nearly_disc_and_circle,
+    nearly_disc_and_circle::<false, false>,
+    nearly_disc_and_circle::<false, true>,
+    nearly_disc_and_circle::<true, false>,
+    nearly_disc_and_circle::<true, true>,
     one_off_an_end::<1>,
     one_off_an_end::<-1>,
     at_a_pole::<1>,
@@ -89,11 +92,13 @@ fn rectangle_and_ellipse(random: &mut Random) -> Pair {
     (rectangle, Area { shape: ELLIPSE, ..rectangle })
 }
 
-/// An ellipse whose axes differ by one, and the circle of the one or the other.
-fn nearly_disc_and_circle(random: &mut Random) -> Pair {
-    let (ellipse, _) = one_more::<ELLIPSE, B>(random);
-    let ellipse = Area { a: ellipse.b + 1, ..ellipse };
-    let a = random.pick(&[ellipse.a, ellipse.b]);
+/// An ellipse whose axes differ by one, the longer being a or b, and the circle
+/// with a or b for its radius.
+fn nearly_disc_and_circle<const LONG_A: bool, const OF_B: bool>(random: &mut Random) -> Pair {
+    let (_, more) = one_more::<ELLIPSE, B>(random);
+    let long_b = Area { a: more.b - 1, ..more };
+    let ellipse = if LONG_A { long_b.exchanged() } else { long_b };
+    let a = if OF_B { ellipse.b } else { ellipse.a };
     (ellipse, Area { shape: CIRCLE, a, ..ellipse })
 }
 

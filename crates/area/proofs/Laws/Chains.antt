@@ -7,11 +7,11 @@ use lib.Dec.{eqb, ltb}
 use lib.IntN.{ℤ, pos, negℤ}
 use borrow.Author.Tests.{ltb-true, ltb-false}
 use Rattle.area.specs.declared.Area.{Area}
-use Rattle.area.specs.Area.{eqZ, normalLongitude, normal}
+use Rattle.area.specs.Area.{eqZ, normalLongitude, normalBy, normal}
 use Rattle.area.specs.Ground.{Good, area, Sided, rectangle, ellipse, circle, halfTurn, exchange, disc, ends, Chain, none, one, back, join}
 use Rattle.area.proofs.Laws.Numbers.{eqZ-true}
 use Rattle.area.proofs.Laws.Good.{good-shape, good-angle, good-turned, good-exchanged, good-round, good-normal-longitude}
-use Rattle.area.proofs.Laws.Normal.{Sides, equal, less, more, sides, by-sides, by-axes}
+use Rattle.area.proofs.Laws.Normal.{Sides, equal, less, more, sides}
 
 -- both ends of a chain are good
 pub chain-good : {x y : Area} → Chain x y → Good x × Good y
@@ -61,8 +61,8 @@ module _ {s : ℕ} (u : Sided s) {y x : ℤ} where
           subst (λ (n : ℕ). Chain (area s y x a a (g % 180)) (area s y x a a n)) is (none (good-turned ok (g % 180) (omega arith)))
       go false e = back (exchanged-to (g % 180) (omega (arith, ltb-false (g % 180) 90 e)) (good-turned ok (g % 90) (omega arith)))
 
-  to-sides : {p q r t : Bool} {a b g : ℕ} → Sides a b p q r t → Good (area s y x a b g) → Chain (area s y x a b g) (by-sides p q (area s y x a b g))
-  unfolding by-sides
+  to-sides : {p q r t : Bool} {a b g : ℕ} → Sides a b p q r t → Good (area s y x a b g) → Chain (area s y x a b g) (normalBy false p q (area s y x a b g))
+  unfolding normalBy
   to-sides {a = a} {b = b} {g = g} (equal e) ok =
       onward (subst (λ (c : ℕ). Good (area s y x a c g) → Chain (area s y x a c g) (area s y x a c (g % 90))) e modulo-90 ok) at-normal-longitude
   to-sides (less e) ok = onward (modulo-180 ok) at-normal-longitude
@@ -71,8 +71,8 @@ module _ {s : ℕ} (u : Sided s) {y x : ℤ} where
       subst (λ (n : ℕ). Chain (area s y x a b g) (area s y (normalLongitude x) b a n)) is
       (onward (onward (exchanged-to ((g + 90) % 360) refl ok) modulo-180) at-normal-longitude)
 
-to-axes : {y x : ℤ} {p q r t : Bool} {a b g : ℕ} → Sides a b p q r t → Good (area 2 y x a b g) → Chain (area 2 y x a b g) (by-axes p q (area 2 y x a b g))
-unfolding by-axes
+to-axes : {y x : ℤ} {p q r t : Bool} {a b g : ℕ} → Sides a b p q r t → Good (area 2 y x a b g) → Chain (area 2 y x a b g) (normalBy p p q (area 2 y x a b g))
+unfolding normalBy
 to-axes {y} {x} {a = a} {g = g} (equal e) ok =
     join (subst (λ (c : ℕ). Good (area 2 y x a c g) → Chain (area 2 y x a c g) (area 0 y x a 0 0)) e (λ here. one here (good-round here 0 0 zero-le zero-le) (disc 0 g 0)) ok)
     (at-normal-longitude (good-round ok 0 0 zero-le zero-le))
@@ -80,7 +80,7 @@ to-axes (less e) ok = to-sides ellipse (less e) ok
 to-axes (more e) ok = to-sides ellipse (more e) ok
 
 by-shape : (s : ℕ) {y x : ℤ} {a b g : ℕ} → s ≤ 2 → Good (area s y x a b g) → Chain (area s y x a b g) (normal (area s y x a b g))
-unfolding normal by-sides by-axes
+unfolding normal normalBy
 by-shape zero {b = b} {g = g} h ok = join (one ok (good-round ok 0 0 zero-le zero-le) (circle b 0 g 0)) (at-normal-longitude (good-round ok 0 0 zero-le zero-le))
 by-shape (suc zero) {a = a} {b = b} h ok = to-sides rectangle (sides a b) ok
 by-shape (suc (suc zero)) {a = a} {b = b} h ok = to-axes (sides a b) ok

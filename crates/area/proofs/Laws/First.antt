@@ -12,11 +12,11 @@ use lib.Signed.{ltZ}
 use borrow.Author.Tests.{ltb-true, ltb-false, lt-ltb, le-ltb, ne-eqb}
 use Rattle.octets.proofs.Laws.Tests.{clash}
 use Rattle.area.specs.declared.Area.{Area}
-use Rattle.area.specs.Area.{eqZ, normalLongitude, normal}
+use Rattle.area.specs.Area.{eqZ, normalLongitude, normalBy, normal}
 use Rattle.area.specs.Ground.{Good, area, Chain, numbers, before, comesBefore}
 use Rattle.area.proofs.Laws.Numbers.{eqZ-self, eqZ-true}
 use Rattle.area.proofs.Laws.Good.{good-shape}
-use Rattle.area.proofs.Laws.Normal.{Sides, equal, less, more, sides, by-sides, by-axes, normal-kept}
+use Rattle.area.proofs.Laws.Normal.{Sides, equal, less, more, sides, normal-kept}
 use Rattle.area.proofs.Laws.Chains.{chain-good}
 
 -- a list is the other, or comes before it
@@ -74,21 +74,21 @@ from-centre y x {l} {k} u = next (go (eqZ x (pos 1_800_000_000)) refl)
     go false e = next u
 
 module _ (s : ℕ) (y x : ℤ) (a b g : ℕ) where
-  sides-up-to : {p q r t : Bool} → Sides a b p q r t → UpTo (numbers (by-sides p q (area s y x a b g))) (numbers (area s y x a b g))
-  unfolding by-sides
+  sides-up-to : {p q r t : Bool} → Sides a b p q r t → UpTo (numbers (normalBy false p q (area s y x a b g))) (numbers (area s y x a b g))
+  unfolding normalBy
   sides-up-to (equal e) = next (from-centre y x (next (next (no-larger (mod-le g 90) same))))
   sides-up-to (less e) = next (from-centre y x (next (next (no-larger (mod-le g 180) same))))
   sides-up-to (more e) = next (from-centre y x (here (lt-ltb b a e)))
 
   -- an ellipse comes behind its circle
-  axes-up-to : {p q r t : Bool} → 0 < s → Sides a b p q r t → UpTo (numbers (by-axes p q (area s y x a b g))) (numbers (area s y x a b g))
-  unfolding by-axes
+  axes-up-to : {p q r t : Bool} → 0 < s → Sides a b p q r t → UpTo (numbers (normalBy p p q (area s y x a b g))) (numbers (area s y x a b g))
+  unfolding normalBy
   axes-up-to h (equal e) = here (lt-ltb 0 s h)
   axes-up-to h (less e) = sides-up-to (less e)
   axes-up-to h (more e) = sides-up-to (more e)
 
 by-shape : (s : ℕ) (y x : ℤ) (a b g : ℕ) → s ≤ 2 → UpTo (numbers (normal (area s y x a b g))) (numbers (area s y x a b g))
-unfolding normal by-sides by-axes
+unfolding normal normalBy
 by-shape zero y x a b g h = next (from-centre y x (next (no-larger zero-le (no-larger zero-le same))))
 by-shape (suc zero) y x a b g h = sides-up-to 1 y x a b g (sides a b)
 by-shape (suc (suc zero)) y x a b g h = axes-up-to 2 y x a b g (lit< tt) (sides a b)

@@ -7,7 +7,7 @@ use lib.Dec.{eqb, ltb}
 use lib.IntN.{ℤ, pos, negℤ}
 use borrow.Author.Tests.{eqb-true, eqb-false, eq-eqb, ne-eqb, ltb-true, ltb-false, lt-ltb, le-ltb}
 use Rattle.area.specs.declared.Area.{Area}
-use Rattle.area.specs.Area.{eqZ, normalLongitude, described, isRound, normal}
+use Rattle.area.specs.Area.{eqZ, normalLongitude, described, isRound, normalBy, normal}
 use Rattle.area.specs.Ground.{area, Sided, rectangle, ellipse, Change, circle, halfTurn, exchange, disc, ends, Chain, none, one, back, join}
 
 -- how a and b compare, as `normal` asks it, and as it asks it of b and a
@@ -25,49 +25,35 @@ sides a b = go (eqb a b) (ltb a b) refl refl
     go false true e f = rw (ne-eqb b a (λ q. eqb-false a b e (sym q)), le-ltb b a (omega (arith, ltb-true a b f))) (less (ltb-true a b f))
     go false false e f = rw (ne-eqb b a (λ q. eqb-false a b e (sym q)), lt-ltb b a (omega (arith, eqb-false a b e, ltb-false a b f))) (more (omega (arith, eqb-false a b e, ltb-false a b f)))
 
--- the normal form of what is not round, by the two tests
-unfoldable pub by-sides : Bool → Bool → Area → Area
-by-sides p q x =
-    cond p (described x (x .shape) (x .a) (x .b) (x .angle % 90))
-    (cond q (described x (x .shape) (x .a) (x .b) (x .angle % 180))
-    (described x (x .shape) (x .b) (x .a) ((x .angle + 90) % 180)))
-
--- and of an ellipse, which is round where they are equal
-unfoldable pub by-axes : Bool → Bool → Area → Area
-by-axes p q x = cond p (described x 0 (x .a) 0 0) (by-sides p q x)
-
+-- what has sides is not round, and an ellipse is where its axes are equal: `normalBy false p q` and `normalBy p p q`
 module _ (s : ℕ) (y x : ℤ) where
-  half-turned : (p q : Bool) (a b g : ℕ) → by-sides p q (area s y x a b g) ≡ by-sides p q (area s y x a b (g + 180))
-  unfolding by-sides
-  half-turned true q a b g = ap (described (area s y x a b g) s a b) (omega arith)
-  half-turned false true a b g = ap (described (area s y x a b g) s a b) (omega arith)
-  half-turned false false a b g = ap (described (area s y x a b g) s b a) (omega arith)
+  half-turned : (o p q : Bool) (a b g : ℕ) → normalBy o p q (area s y x a b g) ≡ normalBy o p q (area s y x a b (g + 180))
+  unfolding normalBy
+  half-turned true p q a b g = refl
+  half-turned false true q a b g = ap (described (area s y x a b g) s a b) (omega arith)
+  half-turned false false true a b g = ap (described (area s y x a b g) s a b) (omega arith)
+  half-turned false false false a b g = ap (described (area s y x a b g) s b a) (omega arith)
 
-  half-turned-axes : (p q : Bool) (a b g : ℕ) → by-axes p q (area s y x a b g) ≡ by-axes p q (area s y x a b (g + 180))
-  unfolding by-axes
-  half-turned-axes true q a b g = refl
-  half-turned-axes false q a b g = half-turned false q a b g
-
-  exchanged : {p q r t : Bool} (a b g : ℕ) → Sides a b p q r t → by-sides p q (area s y x a b g) ≡ by-sides r t (area s y x b a ((g + 90) % 360))
-  unfolding by-sides
+  exchanged : {p q r t : Bool} (a b g : ℕ) → Sides a b p q r t → normalBy false p q (area s y x a b g) ≡ normalBy false r t (area s y x b a ((g + 90) % 360))
+  unfolding normalBy
   exchanged a b g (equal e) = let f : g % 90 ≡ (g + 90) % 360 % 90 = omega arith in λ i. area s y (normalLongitude x) (e i) (sym e i) (f i)
   exchanged a b g (less e) = ap (described (area s y x a b g) s a b) (omega arith)
   exchanged a b g (more e) = ap (described (area s y x a b g) s b a) (omega arith)
 
-  exchanged-axes : {p q r t : Bool} (a b g : ℕ) → Sides a b p q r t → by-axes p q (area s y x a b g) ≡ by-axes r t (area s y x b a ((g + 90) % 360))
-  unfolding by-axes
+  exchanged-axes : {p q r t : Bool} (a b g : ℕ) → Sides a b p q r t → normalBy p p q (area s y x a b g) ≡ normalBy r r t (area s y x b a ((g + 90) % 360))
+  unfolding normalBy
   exchanged-axes a b g (equal e) = ap (λ (c : ℕ). area 0 y (normalLongitude x) c 0 0) e
   exchanged-axes a b g (less e) = exchanged a b g (less e)
   exchanged-axes a b g (more e) = exchanged a b g (more e)
 
 kept : {x y : Area} → Change x y → normal x ≡ normal y
-unfolding normal by-sides by-axes
+unfolding normal normalBy
 kept (circle b c g h) = refl
-kept (halfTurn rectangle {y = y} {x = x} {a = a} {b = b} g) = half-turned 1 y x (eqb a b) (ltb a b) a b g
-kept (halfTurn ellipse {y = y} {x = x} {a = a} {b = b} g) = half-turned-axes 2 y x (eqb a b) (ltb a b) a b g
+kept (halfTurn rectangle {y = y} {x = x} {a = a} {b = b} g) = half-turned 1 y x false (eqb a b) (ltb a b) a b g
+kept (halfTurn ellipse {y = y} {x = x} {a = a} {b = b} g) = half-turned 2 y x (eqb a b) (eqb a b) (ltb a b) a b g
 kept (exchange rectangle {y = y} {x = x} {a = a} {b = b} g) = exchanged 1 y x a b g (sides a b)
 kept (exchange ellipse {y = y} {x = x} {a = a} {b = b} g) = exchanged-axes 2 y x a b g (sides a b)
-kept (disc {y = y} {x = x} {a = a} b g h) = ap (λ (p : Bool). by-axes p (ltb a a) (area 2 y x a a g)) (eq-eqb a a refl)
+kept (disc {y = y} {x = x} {a = a} b g h) = ap (λ (p : Bool). normalBy p p (ltb a a) (area 2 y x a a g)) (eq-eqb a a refl)
 kept ends = refl
 
 -- a chain joins areas of one normal form
@@ -85,14 +71,14 @@ longitude-again z = go (eqZ z (pos 1_800_000_000)) refl
     go false e = rw e
 
 module _ (s : ℕ) (y x : ℤ) (a b g : ℕ) where
-  sides-again : {p q r t : Bool} → Sides a b p q r t → (eqb s 0 || (eqb s 2 && p)) ≡ false → normal (by-sides p q (area s y x a b g)) ≡ by-sides p q (area s y x a b g)
-  unfolding normal by-sides
+  sides-again : {p q r t : Bool} → Sides a b p q r t → (eqb s 0 || (eqb s 2 && p)) ≡ false → normal (normalBy false p q (area s y x a b g)) ≡ normalBy false p q (area s y x a b g)
+  unfolding normal normalBy
   sides-again (equal e) f = let is : g % 90 % 90 ≡ g % 90 = omega arith in rw (eq-eqb a b e, f, longitude-again x, is)
   sides-again (less e) f = let is : g % 180 % 180 ≡ g % 180 = omega arith in rw (ne-eqb a b (λ q. omega arith), f, lt-ltb a b e, longitude-again x, is)
   sides-again (more e) f = let is : (g + 90) % 180 % 180 ≡ (g + 90) % 180 = omega arith in rw (ne-eqb b a (λ q. omega arith), f, lt-ltb b a e, longitude-again x, is)
 
   round-again : (t : Bool) → isRound (area s y x a b g) ≡ t → normal (normal (area s y x a b g)) ≡ normal (area s y x a b g)
-  unfolding normal by-sides
+  unfolding normal normalBy
   round-again true e = rw (e, longitude-again x)
   round-again false e = rw e (sides-again (sides a b) e)
 
@@ -100,13 +86,13 @@ module _ (s : ℕ) (y x : ℤ) (a b g : ℕ) where
 pub normal-again : (x : Area) → normal (normal x) ≡ normal x
 normal-again x = round-again (x .shape) (x .latitude) (x .longitude) (x .a) (x .b) (x .angle) (isRound x) refl
 
--- no change alters the latitude
-pub normal-latitude : (x : Area) → normal x .latitude ≡ x .latitude
-unfolding normal by-sides
-normal-latitude x = by-tests (isRound x) (eqb (x .a) (x .b)) (ltb (x .a) (x .b))
+-- the centre has no part in the rest: its latitude stays, and its longitude is that of one end
+pub normal-centre : (x : Area) → (normal x .latitude ≡ x .latitude) × (normal x .longitude ≡ normalLongitude (x .longitude))
+unfolding normal normalBy
+normal-centre x = by-tests (isRound x) (eqb (x .a) (x .b)) (ltb (x .a) (x .b))
   where
-    by-tests : (o p q : Bool) → cond o (described x 0 (x .a) 0 0) (by-sides p q x) .latitude ≡ x .latitude
-    by-tests true p q = refl
-    by-tests false true q = refl
-    by-tests false false true = refl
-    by-tests false false false = refl
+    by-tests : (o p q : Bool) → (normalBy o p q x .latitude ≡ x .latitude) × (normalBy o p q x .longitude ≡ normalLongitude (x .longitude))
+    by-tests true p q = (refl, refl)
+    by-tests false true q = (refl, refl)
+    by-tests false false true = (refl, refl)
+    by-tests false false false = (refl, refl)

@@ -5,21 +5,20 @@ use mathlib.Core.Path.{_≡_, _∙_}
 use mathlib.Core.Bool.{false}
 use borrow.Author.Tests.{eq-eqb, ne-eqb, lt-ltb, le-ltb}
 use borrow.Author.Needs.{needs}
-use Rattle.area.specs.declared.Area.{Area}
-use Rattle.area.specs.Area.{isRound, described, normal}
+use Rattle.area.specs.Area.{normalBy, normal}
 use Rattle.area.proofs.normal.Statement.{statement}
 use Rattle.area.proofs.normal.Tie as tie
 
 returns : tie.Need-returns
-unfolding normal
+unfolding normal normalBy
 returns c = rw (← c .before .before .is-round .ensures, c .before .if1 .taken) (c .described .ensures)
 
 returns-2 : tie.Need-returns-2
-unfolding normal
+unfolding normal normalBy
 returns-2 c = rw (← c .before .before .before .before .before .is-round .ensures, c .before .before .before .before .if1 .left, eq-eqb _ _ (c .before .before .if2 .taken)) (c .described2 .ensures)
 
 returns-3 : tie.Need-returns-3
-unfolding normal
+unfolding normal normalBy
 returns-3 c = rw (← c .before .before .before .before .before .before .before .is-round .ensures, c .before .before .before .before .before .before .if1 .left, ne-eqb _ _ (c .before .before .before .before .if2 .left), lt-ltb _ _ (c .before .before .if3 .taken)) (c .described3 .ensures)
 
 -- the code takes the angle modulo 180 first, so that the sum fits
@@ -27,7 +26,7 @@ same-turn : (g : ℕ) → (g % 180 + 90) % 180 ≡ (g + 90) % 180
 same-turn g = omega arith
 
 returns-4 : tie.Need-returns-4
-unfolding normal
+unfolding normal normalBy
 returns-4 c =
     let args = c .before .before .before .before .before .before .before .before .args in
     rw (← c .before .before .before .before .before .before .before .is-round .ensures, c .before .before .before .before .before .before .if1 .left, ne-eqb _ _ (c .before .before .before .before .if2 .left), le-ltb _ _ (c .before .before .if3 .left), ← same-turn (args .x .angle)) (c .described4 .ensures)

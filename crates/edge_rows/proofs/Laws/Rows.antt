@@ -6,7 +6,7 @@ use lib.Dec.{T}
 use Rattle.octets.specs.Digits.{digits, number, bits}
 use Rattle.octets.specs.Runs.{same, allZero}
 use Rattle.octets.proofs.Laws.Runs.{same-true}
-use Rattle.area.specs.Area.{goodArea, normal, sameNumbers, hasNormal, sameArea}
+use Rattle.area.specs.Area.{goodArea, normalBy, normal, sameNumbers, hasNormal, sameArea}
 use Rattle.prefix.specs.Prefix.{agrees, holdsPrefix, overlap, goodPrefix}
 use Rattle.links.specs.Settings.{interfaceOk, settingsValues, groundRules, settingsRules, sameGround, overlaps}
 use Rattle.links.specs.Slots.{any, place}
@@ -34,5 +34,5 @@ by-test (r ∷ rs) h = step (same (r .got) (r .want)) refl (by-test rs) h
     step false e f h = absurd h
 
 pub edges : Edges
-unfolding Edges rows test same allZero digits number bits goodArea normal sameNumbers hasNormal sameArea agrees holdsPrefix overlap goodPrefix interfaceOk settingsValues groundRules settingsRules sameGround overlaps any place areaAt enabledAt slotRules rules linkAfter tableAfter reply startValues cleared fresh start multicast forbidden packetRules faultPlace flipped identifier linkLocal fromMac midOfIdentifier midOf indicationValues contentRules choiceRules roomRules indicationRules stopBy byArea byDestination bySource choose receive requestValues linkRules resolveRules requestRules down send
+unfolding Edges rows test same allZero digits number bits goodArea normalBy normal sameNumbers hasNormal sameArea agrees holdsPrefix overlap goodPrefix interfaceOk settingsValues groundRules settingsRules sameGround overlaps any place areaAt enabledAt slotRules rules linkAfter tableAfter reply startValues cleared fresh start multicast forbidden packetRules faultPlace flipped identifier linkLocal fromMac midOfIdentifier midOf indicationValues contentRules choiceRules roomRules indicationRules stopBy byArea byDestination bySource choose receive requestValues linkRules resolveRules requestRules down send
 edges = by-test rows tt
