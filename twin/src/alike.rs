@@ -129,14 +129,20 @@ pub struct Row {
 }
 
 impl Row {
-    fn add(&mut self, table: &Table, comparison: &Comparison) {
+    fn add(&mut self, stops: &[Area], comparison: &Comparison) {
         if (self.caller, self.way.equal) != (comparison.caller, comparison.equal) {
             return;
         }
-        let mut stops = table.stops.values();
-        let seen = stops.any(|stop| self.way.is_that_of(&stop.area, &comparison.given));
+        let seen = stops.iter().any(|stop| self.way.is_that_of(stop, &comparison.given));
         self.count += u64::from(seen);
     }
+}
+
+/// The areas of the enabled stops that can be like the one given. In no way is the
+/// latitude more than 1 apart, and most stops are left out so.
+fn areas_beside(table: &Table, given: &Area) -> Vec<Area> {
+    let areas = table.stops.values().map(|stop| stop.area);
+    areas.filter(|area| (area.latitude - given.latitude).abs() <= 1).collect()
 }
 
 pub struct Counts(Vec<Row>);
@@ -156,7 +162,8 @@ impl Counts {
             let answer = lines.next().map(|line| line.answer);
             let comparison = answer.and_then(|answer| Comparison::of_record(call, &answer));
             if let (Some(table), Some(comparison)) = (replay.table(), comparison) {
-                self.0.iter_mut().for_each(|row| row.add(table, &comparison));
+                let stops = areas_beside(table, &comparison.given);
+                self.0.iter_mut().for_each(|row| row.add(&stops, &comparison));
             }
         });
     }

@@ -27,7 +27,10 @@ fn as_asked(wanted: Wanted) -> Wanted
 {
     match wanted {
         Wanted::Unused => Wanted::Unused,
-        Wanted::SameGround(a) => Wanted::SameGround(area::normal(a)),
+        Wanted::SameGround(a) => {
+            let n = area::normal(a);
+            Wanted::SameGround(n)
+        }
         Wanted::Overlapping(p) => Wanted::Overlapping(p),
     }
 }

@@ -28,9 +28,10 @@ module _ {s : ℕ} {y x : ℤ} {a b g : ℕ} where
   tests : Good (area s y x a b g) → OfCentre y x × OfExtent s a b g
   unfolding goodArea
   tests ok =
-      let h = simp (goodArea, and-eq-true-iff) at (ok .good) in
-      (record { south = h .0 .0 .0 .0 .0 .0 .1; north = h .0 .0 .0 .0 .0 .1; west = h .0 .0 .0 .0 .1; east = h .0 .0 .0 .1 },
-      record { known = h .0 .0 .0 .0 .0 .0 .0; turn = h .0 .0 .1; someA = h .0 .1; someB = h .1; shortA = ok .shortA; shortB = ok .shortB })
+      let h = simp (goodArea, and-eq-true-iff) at (ok .good) in (
+        record { south = h .0 .0 .0 .0 .0 .0 .1; north = h .0 .0 .0 .0 .0 .1; west = h .0 .0 .0 .0 .1; east = h .0 .0 .0 .1 },
+        record { known = h .0 .0 .0 .0 .0 .0 .0; turn = h .0 .0 .1; someA = h .0 .1; someB = h .1; shortA = ok .shortA; shortB = ok .shortB },
+      )
 
   good-by : OfCentre y x → OfExtent s a b g → Good (area s y x a b g)
   unfolding goodArea

@@ -1,11 +1,10 @@
 -- `area::normal` meets its contract.
 use Prim.Native.Nat.{ℕ, _+_, _%_}
 use native.Mathlib.Omega.{arith}
-use mathlib.Core.Path.{_≡_, _∙_}
-use mathlib.Core.Bool.{false}
+use mathlib.Core.Path.{_≡_, _∙_, ap}
 use borrow.Author.Tests.{eq-eqb, ne-eqb, lt-ltb, le-ltb}
 use borrow.Author.Needs.{needs}
-use Rattle.area.specs.Area.{normalBy, normal}
+use Rattle.area.specs.Area.{described, normalBy, normal}
 use Rattle.area.proofs.normal.Statement.{statement}
 use Rattle.area.proofs.normal.Tie as tie
 
@@ -28,8 +27,9 @@ same-turn g = omega arith
 returns-4 : tie.Need-returns-4
 unfolding normal normalBy
 returns-4 c =
-    let args = c .before .before .before .before .before .before .before .before .args in
-    rw (← c .before .before .before .before .before .before .before .is-round .ensures, c .before .before .before .before .before .before .if1 .left, ne-eqb _ _ (c .before .before .before .before .if2 .left), le-ltb _ _ (c .before .before .if3 .left), ← same-turn (args .x .angle)) (c .described4 .ensures)
+    let x = c .before .before .before .before .before .before .before .before .args .x in
+    rw (← c .before .before .before .before .before .before .before .is-round .ensures, c .before .before .before .before .before .before .if1 .left, ne-eqb _ _ (c .before .before .before .before .if2 .left), le-ltb _ _ (c .before .before .if3 .left))
+    (c .described4 .ensures ∙ ap (described x (x .shape) (x .b) (x .a)) (same-turn (x .angle)))
 
 pub normal-spec : {M : Type 1} → statement M
 normal-spec =
