@@ -27,15 +27,20 @@ pub data Sided : ℕ → Type 0 where
 -- area-changes, sentence by sentence
 pub data Change : Area → Area → Type 0 where
   -- change-circle: a circle with any b and any angle
-  circle : {y x : ℤ} {a : ℕ} (b c g h : ℕ) → Change (area 0 y x a b g) (area 0 y x a c h)
+  circle : {latitude longitude : ℤ} {a : ℕ} (b c angle turned : ℕ)
+      → Change (area 0 latitude longitude a b angle) (area 0 latitude longitude a c turned)
   -- change-half-turn: for shapes 1 and 2, angles 180 degrees apart
-  halfTurn : {s : ℕ} → Sided s → {y x : ℤ} {a b : ℕ} (g : ℕ) → Change (area s y x a b g) (area s y x a b (g + 180))
+  halfTurn : {shape : ℕ} → Sided shape → {latitude longitude : ℤ} {a b : ℕ} (angle : ℕ)
+      → Change (area shape latitude longitude a b angle) (area shape latitude longitude a b (angle + 180))
   -- change-exchange: for shapes 1 and 2, a and b exchanged, and 90 degrees added, modulo 360
-  exchange : {s : ℕ} → Sided s → {y x : ℤ} {a b : ℕ} (g : ℕ) → Change (area s y x a b g) (area s y x b a ((g + 90) % 360))
-  -- change-disc: an ellipse with a = b, at any angle, and the circle of radius a
-  disc : {y x : ℤ} {a : ℕ} (b g h : ℕ) → Change (area 2 y x a a g) (area 0 y x a b h)
+  exchange : {shape : ℕ} → Sided shape → {latitude longitude : ℤ} {a b : ℕ} (angle : ℕ)
+      → Change (area shape latitude longitude a b angle) (area shape latitude longitude b a ((angle + 90) % 360))
+  -- change-disc: an ellipse with a = b, at any angle, and the circle of radius a, with any b and angle
+  disc : {latitude longitude : ℤ} {a : ℕ} (b angle turned : ℕ)
+      → Change (area 2 latitude longitude a a angle) (area 0 latitude longitude a b turned)
   -- change-ends: both ends of the longitude range
-  ends : {s : ℕ} {y : ℤ} {a b g : ℕ} → Change (area s y (pos 1_800_000_000) a b g) (area s y (negℤ (pos 1_800_000_000)) a b g)
+  ends : {shape : ℕ} {latitude : ℤ} {a b angle : ℕ}
+      → Change (area shape latitude (pos 1_800_000_000) a b angle) (area shape latitude (negℤ (pos 1_800_000_000)) a b angle)
 
 -- area-equal: chains of changes, in either direction, where every area on the way is good
 pub data Chain : Area → Area → Type 0 where

@@ -1,9 +1,9 @@
 -- A chain joins a good area and its normal form; so areas of one normal form are joined.
-use Prim.Native.Nat.{ℕ, zero, suc, _+_, _%_, _≤_, zero-le}
+use Prim.Native.Nat.{ℕ, zero, suc, _+_, _%_, _≤_}
 use native.Mathlib.Omega.{arith}
 use mathlib.Core.Path.{_≡_, refl, sym, subst}
 use mathlib.Core.Bool.{Bool, true, false, cond}
-use lib.Dec.{eqb, ltb}
+use lib.Dec.{ltb}
 use lib.IntN.{ℤ, pos, negℤ}
 use borrow.Author.Tests.{ltb-true, ltb-false}
 use Rattle.area.specs.declared.Area.{Area}
@@ -74,14 +74,14 @@ module _ {s : ℕ} (u : Sided s) {y x : ℤ} where
 to-axes : {y x : ℤ} {p q r t : Bool} {a b g : ℕ} → Sides a b p q r t → Good (area 2 y x a b g) → Chain (area 2 y x a b g) (normalBy p p q (area 2 y x a b g))
 unfolding normalBy
 to-axes {y} {x} {a = a} {g = g} (equal e) ok =
-    join (subst (λ (c : ℕ). Good (area 2 y x a c g) → Chain (area 2 y x a c g) (area 0 y x a 0 0)) e (λ here. one here (good-round here 0 0 zero-le zero-le) (disc 0 g 0)) ok)
-    (at-normal-longitude (good-round ok 0 0 zero-le zero-le))
+    join (subst (λ (c : ℕ). Good (area 2 y x a c g) → Chain (area 2 y x a c g) (area 0 y x a 0 0)) e (λ here. one here (good-round here) (disc 0 g 0)) ok)
+    (at-normal-longitude (good-round ok))
 to-axes (less e) ok = to-sides ellipse (less e) ok
 to-axes (more e) ok = to-sides ellipse (more e) ok
 
 by-shape : (s : ℕ) {y x : ℤ} {a b g : ℕ} → s ≤ 2 → Good (area s y x a b g) → Chain (area s y x a b g) (normal (area s y x a b g))
 unfolding normal normalBy
-by-shape zero {b = b} {g = g} h ok = join (one ok (good-round ok 0 0 zero-le zero-le) (circle b 0 g 0)) (at-normal-longitude (good-round ok 0 0 zero-le zero-le))
+by-shape zero {b = b} {g = g} h ok = join (one ok (good-round ok) (circle b 0 g 0)) (at-normal-longitude (good-round ok))
 by-shape (suc zero) {a = a} {b = b} h ok = to-sides rectangle (sides a b) ok
 by-shape (suc (suc zero)) {a = a} {b = b} h ok = to-axes (sides a b) ok
 by-shape (suc (suc (suc s))) h ok = absurd (omega arith)

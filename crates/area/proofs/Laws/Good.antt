@@ -1,5 +1,5 @@
 -- What a change does to an area's numbers leaves a good area good.
-use Prim.Native.Nat.{ℕ, _≤_}
+use Prim.Native.Nat.{ℕ, _≤_, zero-le}
 use mathlib.Core.Path.{_≡_, refl}
 use mathlib.Core.Bool.{Bool, true, false, cond, _||_, and-eq-true-iff}
 use lib.Dec.{eqb, leb}
@@ -63,10 +63,10 @@ module _ {s : ℕ} {y x : ℤ} {a b g : ℕ} (ok : Good (area s y x a b g)) wher
       good-by (tests ok .0) (record { known = e .known; turn = e .turn; someA = rw (has-sides u) at (e .someB); someB = rw (has-sides u) (e .someA); shortA = e .shortB; shortB = e .shortA })
 
   -- the circle of radius a
-  pub good-round : (c h : ℕ) → c ≤ 65_535 → h ≤ 359 → Good (area 0 y x a c h)
-  good-round c h m n =
+  pub good-round : Good (area 0 y x a 0 0)
+  good-round =
       let e = tests ok .1 in
-      good-by (tests ok .0) (record { known = refl; turn = le-leb h 359 n; someA = e .someA; someB = refl; shortA = e .shortA; shortB = m })
+      good-by (tests ok .0) (record { known = refl; turn = refl; someA = e .someA; someB = refl; shortA = e .shortA; shortB = zero-le })
 
   pub good-normal-longitude : Good (area s y (normalLongitude x) a b g)
   good-normal-longitude = by-end (eqZ x (pos 1_800_000_000))

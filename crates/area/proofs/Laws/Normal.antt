@@ -1,4 +1,4 @@
--- A change does not change the normal form.
+-- A change does not change the normal form. Numbers of an area: shape s, latitude y, longitude x, a, b, angle g.
 use Prim.Native.Nat.{ℕ, _+_, _%_, _<_}
 use native.Mathlib.Omega.{arith}
 use mathlib.Core.Path.{_≡_, refl, sym, _∙_, ap}
@@ -8,7 +8,7 @@ use lib.IntN.{ℤ, pos, negℤ}
 use borrow.Author.Tests.{eqb-true, eqb-false, eq-eqb, ne-eqb, ltb-true, ltb-false, lt-ltb, le-ltb}
 use Rattle.area.specs.declared.Area.{Area}
 use Rattle.area.specs.Area.{eqZ, normalLongitude, described, isRound, normalBy, normal}
-use Rattle.area.specs.Ground.{area, Sided, rectangle, ellipse, Change, circle, halfTurn, exchange, disc, ends, Chain, none, one, back, join}
+use Rattle.area.specs.Ground.{area, rectangle, ellipse, Change, circle, halfTurn, exchange, disc, ends, Chain, none, one, back, join}
 
 -- how a and b compare, as `normal` asks it, and as it asks it of b and a
 pub data Sides (a b : ℕ) : Bool → Bool → Bool → Bool → Type 0 where
@@ -49,11 +49,11 @@ module _ (s : ℕ) (y x : ℤ) where
 kept : {x y : Area} → Change x y → normal x ≡ normal y
 unfolding normal normalBy
 kept (circle b c g h) = refl
-kept (halfTurn rectangle {y = y} {x = x} {a = a} {b = b} g) = half-turned 1 y x false (eqb a b) (ltb a b) a b g
-kept (halfTurn ellipse {y = y} {x = x} {a = a} {b = b} g) = half-turned 2 y x (eqb a b) (eqb a b) (ltb a b) a b g
-kept (exchange rectangle {y = y} {x = x} {a = a} {b = b} g) = exchanged 1 y x a b g (sides a b)
-kept (exchange ellipse {y = y} {x = x} {a = a} {b = b} g) = exchanged-axes 2 y x a b g (sides a b)
-kept (disc {y = y} {x = x} {a = a} b g h) = ap (λ (p : Bool). normalBy p p (ltb a a) (area 2 y x a a g)) (eq-eqb a a refl)
+kept (halfTurn rectangle {latitude = y} {longitude = x} {a = a} {b = b} g) = half-turned 1 y x false (eqb a b) (ltb a b) a b g
+kept (halfTurn ellipse {latitude = y} {longitude = x} {a = a} {b = b} g) = half-turned 2 y x (eqb a b) (eqb a b) (ltb a b) a b g
+kept (exchange rectangle {latitude = y} {longitude = x} {a = a} {b = b} g) = exchanged 1 y x a b g (sides a b)
+kept (exchange ellipse {latitude = y} {longitude = x} {a = a} {b = b} g) = exchanged-axes 2 y x a b g (sides a b)
+kept (disc {latitude = y} {longitude = x} {a = a} b g h) = ap (λ (p : Bool). normalBy p p (ltb a a) (area 2 y x a a g)) (eq-eqb a a refl)
 kept ends = refl
 
 -- a chain joins areas of one normal form
