@@ -32,16 +32,4 @@ returns-4 c =
     (c .described4 .ensures ∙ ap (described x (x .shape) (x .b) (x .a)) (same-turn (x .angle)))
 
 pub normal-spec : {M : Type 1} → statement M
-normal-spec =
-    tie.close
-    (tie.spec
-    (λ c κs. tt)
-    (λ c κs. tt)
-    returns
-    (λ c κs. tt)
-    returns-2
-    (λ c κs. tt)
-    returns-3
-    (λ c. search needs)
-    (λ c κs. tt)
-    returns-4)
+normal-spec = tie.close (tie.spec (λ c κs. tt) (λ c κs. tt) returns (λ c κs. tt) returns-2 (λ c κs. tt) returns-3 (λ c. search needs) (λ c κs. tt) returns-4)

@@ -13,13 +13,4 @@ returns-3 : tie.Need-returns-3
 returns-3 c = rw (c .before .wanted2 .given .1)
 
 pub as-asked-spec : {M : Type 1} → statement M
-as-asked-spec =
-    tie.close
-    (tie.spec
-    (λ c. search needs)
-    (λ c. search needs)
-    (λ c κs. tt)
-    (λ c. search needs)
-    (λ c. search needs)
-    returns-2
-    returns-3)
+as-asked-spec = tie.close (tie.spec (λ c. search needs) (λ c. search needs) (λ c κs. tt) (λ c. search needs) (λ c. search needs) returns-2 returns-3)
