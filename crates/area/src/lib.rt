@@ -39,6 +39,7 @@ fn is_round(x: Area) -> bool
     (x.shape == 0) | ((x.shape == 2) & (x.a == x.b))
 }
 
+// The centre of x, and what else describes the area.
 fn described(x: Area, shape: u8, a: u16, b: u16, angle: u16) -> Area
     ensures { λ r. ⌜ r ≡ described x shape a b angle ⌝ }
 {
@@ -65,6 +66,7 @@ pub fn normal(x: Area) -> Area
     if x.a < x.b {
         return described(x, x.shape, x.a, x.b, x.angle % 180);
     }
+    // modulo 180 before the sum too: a bad angle can be as large as its type
     described(x, x.shape, x.b, x.a, (x.angle % 180 + 90) % 180)
 }
 

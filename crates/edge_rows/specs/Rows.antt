@@ -8,6 +8,7 @@ use lib.ListN.{take, drop, replicate}
 use Rattle.octets.specs.Digits.{digits}
 use Rattle.area.specs.declared.Area.{Area}
 use Rattle.area.specs.Area.{goodArea, sameNumbers}
+use Rattle.area.specs.Ground.{area}
 use Rattle.prefix.specs.Prefix.{noPrefix}
 use Rattle.links.specs.declared.PerhapsLink.{PerhapsLink}
 use Rattle.links.specs.declared.PerhapsLink.the-variants.{Link, Nothing}
@@ -111,16 +112,16 @@ given t (c ∷ cs) = indexOrZero (reply t c .link) ∷ given (reply t c .table) 
 
 -- areas by a, b and angle, at 0, 0; and elsewhere
 abbrev pub circle : ℕ → ℕ → ℕ → Area
-circle a b angle = record { shape = 0; latitude = pos 0; longitude = pos 0; a = a; b = b; angle = angle }
+circle a b angle = area 0 (pos 0) (pos 0) a b angle
 
 abbrev pub rectangle : ℕ → ℕ → ℕ → Area
-rectangle a b angle = record { shape = 1; latitude = pos 0; longitude = pos 0; a = a; b = b; angle = angle }
+rectangle a b angle = area 1 (pos 0) (pos 0) a b angle
 
 abbrev pub ellipse : ℕ → ℕ → ℕ → Area
-ellipse a b angle = record { shape = 2; latitude = pos 0; longitude = pos 0; a = a; b = b; angle = angle }
+ellipse a b angle = area 2 (pos 0) (pos 0) a b angle
 
 abbrev pub centred : ℤ → ℤ → Area → Area
-centred latitude longitude x = record { shape = x .shape; latitude = latitude; longitude = longitude; a = x .a; b = x .b; angle = x .angle }
+centred latitude longitude x = area (x .shape) latitude longitude (x .a) (x .b) (x .angle)
 
 -- the ends of the longitude range
 abbrev pub west : ℤ
