@@ -1,11 +1,13 @@
 -- RULES, Virtual links: settings, which are good, and what two stop links have to do with each other.
 use Prim.Native.Nat.{ℕ, _^_}
 use mathlib.Core.Path.{_≡_}
+use mathlib.Core.Logic.{_↔_}
 use mathlib.Core.Bool.{Bool, true, not, _&&_}
 use mathlib.Core.List.{List, [], _++_}
 use lib.Dec.{leb, ltb}
 use Rattle.replies.specs.Rules.{Rule, _if_, _then_}
 use Rattle.area.specs.Area.{goodArea, sameArea}
+use Rattle.area.specs.Ground.{Good, Chain}
 use Rattle.prefix.specs.Prefix.{holds, overlap, goodPrefix}
 use Rattle.links.specs.declared.Interface.{Interface}
 use Rattle.links.specs.declared.Settings.{Settings}
@@ -46,3 +48,7 @@ pub record Same (r s : Settings) : Type 0 where
   pub area : sameArea (r .area) (s .area) ≡ true
   pub prefix : r .prefix ≡ s .prefix
   pub interface : r .interface ≡ s .interface
+
+-- and what it comes to: a chain of changes joins the areas, and prefix, kind and flag are the same
+unfoldable pub EqualSettings : Type 0
+EqualSettings = (r s : Settings) → Good (r .area) → Good (s .area) → Same r s ↔ (Chain (r .area) (s .area) × (r .prefix ≡ s .prefix) × (r .interface ≡ s .interface))

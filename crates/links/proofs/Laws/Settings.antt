@@ -5,12 +5,14 @@ use mathlib.Core.Bool.{true}
 use mathlib.Core.List.{List}
 use Rattle.area.specs.declared.Area.{Area}
 use Rattle.area.specs.Area.{sameArea}
+use Rattle.area.specs.Ground.{SameGround}
+use Rattle.area.proofs.Laws.Ground.{same-ground}
 use Rattle.area.proofs.Laws.Same.{same-sym, same-trans, same-test}
 use Rattle.octets.proofs.Laws.Digits.{Below}
 use Rattle.prefix.specs.Prefix.{ofAddress, holds, overlap}
 use Rattle.prefix.proofs.Laws.Overlap.{hold-overlap, overlap-sym, holds-as-overlap}
 use Rattle.links.specs.declared.Settings.{Settings}
-use Rattle.links.specs.Settings.{sameGround, overlaps, reaches, Same}
+use Rattle.links.specs.Settings.{sameGround, overlaps, reaches, Same, EqualSettings}
 
 pub ground-sym : (r s : Settings) → sameGround r s ≡ true → sameGround s r ≡ true
 unfolding sameGround
@@ -23,6 +25,12 @@ ground-one r s a e f = same-trans (r .area) a (s .area) e (same-sym (s .area) a 
 
 pub ground-alike : (r s : Settings) (a : Area) → Same r s → sameArea (r .area) a ≡ sameArea (s .area) a
 ground-alike r s a same = same-test (r .area) (s .area) a (same .area)
+
+pub equal-settings : EqualSettings
+unfolding EqualSettings SameGround
+equal-settings r s p q =
+    let ground = same-ground (r .area) (s .area) p q in
+    (λ same. (ground .0 (same .area), same .prefix, same .interface), λ h. record { area = ground .1 (h .0); prefix = h .1; interface = h .2 })
 
 pub overlaps-sym : (r s : Settings) → overlaps r s ≡ true → overlaps s r ≡ true
 unfolding overlaps
