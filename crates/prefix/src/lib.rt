@@ -16,15 +16,27 @@ pub struct Prefix {
 // The longest length: an address has 128 bits.
 pub const LONGEST: u8 = 128;
 
+// fe80::/10 and ff00::/8: the lengths, and the words that are not zero.
+const LINK_LOCAL_LEN: u8 = 10;
+
+const LINK_LOCAL_HIGH: u64 = 0xfe80_0000_0000_0000;
+
+const MULTICAST_LEN: u8 = 8;
+
+const MULTICAST_HIGH: u64 = 0xff00_0000_0000_0000;
+
+// For this file: what the function below gives would be stored and copied.
+const NONE: Prefix = Prefix {
+    len: 0,
+    high: 0,
+    low: 0,
+};
+
 // The prefix that holds nothing.
 pub fn none() -> Prefix
     ensures { λ r. ⌜ r ≡ noPrefix ⌝ }
 {
-    Prefix {
-        len: 0,
-        high: 0,
-        low: 0,
-    }
+    NONE
 }
 
 // As many bytes as a length needs; a length above 128 needs no more than an address has.
@@ -79,7 +91,7 @@ pub fn of_address(address: &[u8]) -> Prefix
     ensures { λ r. ⌜ r ≡ ofAddress (now (address .entry)) ⌝ }
 {
     if address.len() != 16 {
-        return none();
+        return NONE;
     }
     Prefix {
         len: LONGEST,
@@ -115,44 +127,49 @@ fn clear_after(n: u8, high: u64, low: u64) -> bool
     true
 }
 
+// Whether two prefixes overlap, by their numbers: a prefix by value would be stored to be handed on.
+fn numbers_overlap(len: u8, high: u64, low: u64, len2: u8, high2: u64, low2: u64) -> bool
+    ensures { λ r. ⌜ r ≡ overlap (record { len = len; high = high; low = low }) (record { len = len2; high = high2; low = low2 }) ⌝ }
+{
+    if !((0 < len) & (0 < len2)) {
+        return false;
+    }
+    let n = if len <= len2 { len } else { len2 };
+    same_first_bits(n, high, low, high2, low2)
+}
+
 // Reads the address where it lies in the caller's bytes.
 pub fn holds_address(p: Prefix, address: &[u8]) -> bool
     ensures { λ r. ⌜ r ≡ holds p (now (address .entry)) ⌝ }
 {
-    overlaps(p, of_address(address))
+    (address.len() == 16)
+        && numbers_overlap(
+            p.len,
+            p.high,
+            p.low,
+            LONGEST,
+            octets::word(address, 0),
+            octets::word(address, 8),
+        )
 }
 
 pub fn holds_prefix(p: Prefix, q: Prefix) -> bool
     ensures { λ r. ⌜ r ≡ holdsPrefix p q ⌝ }
 {
-    (p.len <= q.len) & overlaps(p, q)
+    (p.len <= q.len) & numbers_overlap(p.len, p.high, p.low, q.len, q.high, q.low)
 }
 
 pub fn overlaps(p: Prefix, q: Prefix) -> bool
     ensures { λ r. ⌜ r ≡ overlap p q ⌝ }
 {
-    if !((0 < p.len) & (0 < q.len)) {
-        return false;
-    }
-    let n = if p.len <= q.len { p.len } else { q.len };
-    same_first_bits(n, p.high, p.low, q.high, q.low)
+    numbers_overlap(p.len, p.high, p.low, q.len, q.high, q.low)
 }
 
 pub fn good(p: Prefix) -> bool
     ensures { λ r. ⌜ r ≡ goodPrefix p ⌝ }
 {
-    let link_local = Prefix {
-        len: 10,
-        high: 0xfe80_0000_0000_0000,
-        low: 0,
-    };
-    let multicast = Prefix {
-        len: 8,
-        high: 0xff00_0000_0000_0000,
-        low: 0,
-    };
     (p.len <= LONGEST)
         & clear_after(p.len, p.high, p.low)
-        & !overlaps(p, link_local)
-        & !overlaps(p, multicast)
+        & !numbers_overlap(p.len, p.high, p.low, LINK_LOCAL_LEN, LINK_LOCAL_HIGH, 0)
+        & !numbers_overlap(p.len, p.high, p.low, MULTICAST_LEN, MULTICAST_HIGH, 0)
 }

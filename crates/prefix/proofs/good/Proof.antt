@@ -6,7 +6,7 @@ use Rattle.prefix.proofs.good.Tie as tie
 
 returns : tie.Need-returns
 unfolding goodPrefix number
-returns c = rw (c .before .before .clear-after .ensures, c .before .overlaps .ensures, c .overlaps2 .ensures)
+returns c = rw (c .before .before .clear-after .ensures, c .before .numbers-overlap .ensures, c .numbers-overlap2 .ensures)
 
 pub good-spec : {M : Type 1} → statement M
 good-spec =

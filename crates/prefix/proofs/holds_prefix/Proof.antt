@@ -7,7 +7,7 @@ use Rattle.prefix.proofs.holds_prefix.Tie as tie
 returns : tie.Need-returns
 returns c =
     let args = c .before .before .before .args in
-    rw (c .overlaps .ensures) (sym (held-as-overlap (args .p) (args .q)))
+    rw (c .numbers-overlap .ensures) (sym (held-as-overlap (args .p) (args .q)))
 
 pub holds-prefix-spec : {M : Type 1} → statement M
 holds-prefix-spec =

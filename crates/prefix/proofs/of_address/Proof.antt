@@ -4,7 +4,7 @@ use Rattle.prefix.proofs.of_address.Statement.{statement}
 use Rattle.prefix.proofs.of_address.Tie as tie
 
 returns : tie.Need-returns
-returns c = rw (c .none .ensures, ne-eqb _ _ (c .before .if1 .taken))
+returns c = rw (ne-eqb _ _ (c .if1 .taken))
 
 returns-2 : tie.Need-returns-2
 returns-2 c = rw (c .before .word .ensures, c .word2 .ensures, eq-eqb _ _ (c .before .before .if1 .left))
@@ -13,7 +13,6 @@ pub of-address-spec : {M : Type 1} → statement M
 of-address-spec =
     tie.close
     (tie.spec
-    (λ c κs. tt)
     returns
     (λ c κs. tt)
     (λ c κs. tt)
