@@ -25,7 +25,7 @@ const MULTICAST_LEN: u8 = 8;
 
 const MULTICAST_HIGH: u64 = 0xff00_0000_0000_0000;
 
-// For this file: what the function below gives would be stored and copied.
+// For this file: what a call of none gives would be stored, and copied from there.
 const NONE: Prefix = Prefix {
     len: 0,
     high: 0,
