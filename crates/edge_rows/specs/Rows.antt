@@ -15,7 +15,7 @@ use Rattle.links.specs.declared.PerhapsLink.the-variants.{Link, Nothing}
 use Rattle.links.specs.declared.Reply.{Reply}
 use Rattle.links.specs.declared.Settings.{Settings}
 use Rattle.links.specs.declared.Table.{Table}
-use Rattle.links.specs.Calls.{TableCall, enable, disable, reply, startByValue, plain}
+use Rattle.links.specs.Calls.{TableCall, enable, disable, reply, startByValue}
 use Rattle.ipv6.specs.declared.PerhapsMid.{PerhapsMid}
 use Rattle.ipv6.specs.declared.PerhapsMid.the-variants.{Mid, Nothing as NoMid}
 use Rattle.ipv6.specs.Identifier.{linkLocal, midOf}
@@ -71,9 +71,12 @@ wrongLength p = take 4 p ++ 0xff ∷ 0xff ∷ drop 6 p
 abbrev pub fromLoopback : List ℕ → List ℕ
 fromLoopback p = take 8 p ++ replicate 15 0 ++ 1 ∷ drop 24 p
 
--- a start with a maximum, and fixed links of kind 1 and flag 1
+-- a start with a maximum, and fixed links of these kinds and flag 1; of kind 1
+abbrev pub startOf : ℕ → ℕ → ℕ → Reply
+startOf max tvl dgvl = startByValue (record { own = 1; max = max; tvl = record { kind = tvl; flag = 1 }; dgvl = record { kind = dgvl; flag = 1 } })
+
 abbrev pub startWith : ℕ → Reply
-startWith max = startByValue (record { own = 1; max = max; tvl = plain; dgvl = plain })
+startWith max = startOf max 1 1
 
 -- a packet that arrives: its source MID, its transport and destination, and the room that is lent
 abbrev pub arrivingOn : Table → ℕ → ℕ → Destination → ℕ → List ℕ → Reception
@@ -130,12 +133,19 @@ west = negℤ (pos 1_800_000_000)
 abbrev pub east : ℤ
 east = pos 1_800_000_000
 
--- a stop: no prefix
+-- a stop, by its area, kind and flag: no prefix; of kind 1 and flag 1
+abbrev pub stopOf : Area → ℕ → ℕ → Settings
+stopOf x kind flag = record { area = x; prefix = noPrefix; interface = record { kind = kind; flag = flag } }
+
 abbrev pub stopAt : Area → Settings
-stopAt x = record { area = x; prefix = noPrefix; interface = plain }
+stopAt x = stopOf x 1 1
 
 abbrev pub stop : ℕ → Settings
 stop n = stopAt (circle n 0 0)
+
+-- the first stop of a table, by the number that its enable gets
+abbrev pub first : Settings → ℕ
+first s = reply (startWith 65 .table) (enable s) .number
 
 -- a table with this stop alone, which is link 2
 abbrev pub only : Area → Table
@@ -171,6 +181,14 @@ rows =
     ∷ (startWith 2 .number is 0)
     ∷ (startWith 65 .number is 0)
     ∷ (startWith 66 .number is 1)
+    -- edge-retired: kind 2 is 30, directly behind 1; kind 3 is good
+    ∷ (startOf 65 2 1 .number is 30)
+    ∷ (startOf 65 1 2 .number is 30)
+    ∷ (startOf 66 2 1 .number is 1)
+    ∷ (startOf 65 3 3 .number is 0)
+    ∷ (first (stopOf (rectangle 1 1 360) 2 1) is 30)
+    ∷ (first (stopOf (circle 1 0 0) 2 2) is 1)
+    ∷ (first (stopOf (circle 1 0 0) 3 1) is 0)
     -- edge-index: links 2, 3, 4 enabled, 3 disabled: the next enabled gets 3
     ∷ (given (startWith 65 .table) (enable (stop 1) ∷ enable (stop 2) ∷ enable (stop 3) ∷ disable (record { 0 = 3 }) ∷ enable (stop 4) ∷ [])
     are (2 ∷ 3 ∷ 4 ∷ 0 ∷ 3 ∷ []))

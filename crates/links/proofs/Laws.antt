@@ -8,4 +8,5 @@ pub mod Slots
 pub mod Settings
 pub mod Replaced
 pub mod Sound
+pub mod Retired
 pub mod Demands

@@ -1,6 +1,6 @@
 -- The calls that alter the table: their refusals in the rules' order, and what they do where they are not refused.
 use Prim.Native.Nat.{ℕ, zero, suc, _-_}
-use mathlib.Core.Bool.{Bool, true, not, _&&_}
+use mathlib.Core.Bool.{Bool, true, not, _&&_, _||_}
 use mathlib.Core.List.{List, [], _∷_, _++_}
 use lib.Dec.{leb}
 use lib.ListN.{set}
@@ -17,7 +17,7 @@ use Rattle.links.specs.declared.Settings.{Settings}
 use Rattle.links.specs.declared.Slot.{Slot}
 use Rattle.links.specs.declared.StartValues.{StartValues}
 use Rattle.links.specs.declared.Table.{Table}
-use Rattle.links.specs.Settings.{midOk, interfaceOk, settingsRules, sameGround, overlaps}
+use Rattle.links.specs.Settings.{midOk, interfaceOk, retired, settingsRules, sameGround, overlaps}
 use Rattle.links.specs.Slots.{firstStop, isFixed, indexAt, placeOf, free, valueSlots, inUse, counted, slotAt, any, place, unused, with}
 
 pub data TableCall : Type 0 where
@@ -109,9 +109,12 @@ startOk most v =
     && interfaceOk (v .tvl)
     && interfaceOk (v .dgvl)
 
--- its values alone refuse a start
+-- start-refusals: its values alone refuse a start
 unfoldable pub startValues : ℕ → StartValues → List Rule
-startValues most v = 1 if not (startOk most v) then []
+startValues most v =
+    1 if not (startOk most v)
+    then 30 if (retired (v .tvl) || retired (v .dgvl))
+    then []
 
 -- the first n slots of a memory are cleared, or as many as it has
 unfoldable pub cleared : ℕ → List Slot → List Slot

@@ -1,16 +1,19 @@
 -- The tables that calls can reach, and what holds of each.
 use Prim.Native.Nat.{ℕ, _-_, _^_, _≤_, _<_}
 use mathlib.Core.Path.{_≡_}
+use mathlib.Core.Logic.{_≢_}
 use mathlib.Core.Bool.{Bool, true, false}
 use mathlib.Core.List.{List}
 use lib.ListN.{length, getD, drop}
 use Rattle.replies.specs.Rules.{refusal}
+use Rattle.links.specs.declared.LinkIndex.{LinkIndex}
 use Rattle.links.specs.declared.Settings.{Settings}
 use Rattle.links.specs.declared.Slot.{Slot}
 use Rattle.links.specs.declared.StartValues.{StartValues}
 use Rattle.links.specs.declared.Table.{Table}
-use Rattle.links.specs.Settings.{interfaceOk, settingsRules, sameGround, overlaps}
+use Rattle.links.specs.Settings.{interfaceOk, retired, settingsRules, sameGround, overlaps}
 use Rattle.links.specs.Slots.{Has, free, valueSlots, counted, enabledCount}
+use Rattle.links.specs.Index.{enabledAt, interfaceAt}
 use Rattle.links.specs.Calls.{startValues, fresh, goodDynamic, TableCall, reply}
 
 -- table-reached: in a memory of slots, with maxima up to `most`: a start that is not refused, then calls, refused or not
@@ -32,6 +35,8 @@ pub record Sound (most : ℕ) (memory : List Slot) (t : Table) : Type 0 where
   pub largest : t .max ≤ most
   pub tvl : interfaceOk (t .tvl) ≡ true
   pub dgvl : interfaceOk (t .dgvl) ≡ true
+  pub tvlKept : retired (t .tvl) ≡ false
+  pub dgvlKept : retired (t .dgvl) ≡ false
   pub area : goodDynamic (t .area) ≡ true
   -- link-apart: enabled links are good, with pairwise different areas and no overlapping prefixes
   pub good : (k : ℕ) (s : Settings) → Has (counted t) k s → refusal (settingsRules s) ≡ 0
@@ -43,3 +48,7 @@ pub record Sound (most : ℕ) (memory : List Slot) (t : Table) : Type 0 where
   -- everything else is blank, and the memory past the slots that count is as it was
   pub blank : (k : ℕ) → getD (counted t) k free .enabled ≡ false → getD (counted t) k free ≡ free
   pub rest : drop (t .max - 1) (t .slots) ≡ drop (t .max - 1) memory
+
+-- kind-retired: no link of a reached table is of kind 2, fixed or stop
+unfoldable pub NoneRetired : Type 0
+NoneRetired = (most : ℕ) (memory : List Slot) (t : Table) → Reached most memory t → (i : LinkIndex) → enabledAt (counted t) i ≡ true → interfaceAt t i .kind ≢ 2

@@ -4,7 +4,7 @@ use mathlib.Core.Path.{_≡_}
 use mathlib.Core.Logic.{_↔_}
 use mathlib.Core.Bool.{Bool, true, not, _&&_}
 use mathlib.Core.List.{List, [], _++_}
-use lib.Dec.{leb, ltb}
+use lib.Dec.{leb, ltb, eqb}
 use Rattle.replies.specs.Rules.{Rule, _if_, _then_}
 use Rattle.area.specs.Area.{goodArea, sameArea}
 use Rattle.area.specs.Ground.{Good, Chain}
@@ -20,9 +20,16 @@ midOk m = ltb m (2 ^ 48)
 unfoldable pub interfaceOk : Interface → Bool
 interfaceOk f = leb 1 (f .kind) && leb (f .kind) 3 && leb (f .flag) 1
 
+-- kind-retired: it stands in the list, and can no longer be started or enabled
+abbrev pub retired : Interface → Bool
+retired f = eqb (f .kind) 2
+
 -- enable-refusals: those that the settings alone decide: their values, then area and prefix
 unfoldable pub settingsValues : Settings → List Rule
-settingsValues s = 1 if not (interfaceOk (s .interface)) then []
+settingsValues s =
+    1 if not (interfaceOk (s .interface))
+    then 30 if retired (s .interface)
+    then []
 
 unfoldable pub groundRules : Settings → List Rule
 groundRules s =

@@ -1,4 +1,4 @@
-// Which values of the settings are good: what refuses a call before the table is looked at. A call's values (1) are asked apart
+// Which values of the settings are good: what refuses a call before the table is looked at. A call's values (1, 30) are asked apart
 // from the rest, because a layout of the table may have a refusal of its own between the two.
 use crate::Interface;
 use crate::LinkIndex;
@@ -6,8 +6,9 @@ use crate::PerhapsArea;
 use crate::Settings;
 use crate::StartValues;
 ghost use mathlib.Core.Path.{_≡_};
-ghost use Rattle.replies.specs.Rules.{refusal};
-ghost use Rattle.links.specs.Settings.{midOk, interfaceOk, settingsValues, groundRules, settingsRules};
+ghost use mathlib.Core.List.{[]};
+ghost use Rattle.replies.specs.Rules.{refusal, _if_, _then_};
+ghost use Rattle.links.specs.Settings.{midOk, interfaceOk, retired, settingsValues, groundRules, settingsRules};
 ghost use Rattle.links.specs.Calls.{goodDynamic, startValues};
 
 pub fn mid_ok(mid: u64) -> bool
@@ -22,6 +23,13 @@ pub fn interface_ok(f: Interface) -> bool
     (crate::ETHERNET <= f.kind) & (f.kind <= crate::POINT_TO_POINT) & (f.flag <= 1)
 }
 
+// Whether no link can be started or enabled with this kind any more.
+pub fn retired(f: Interface) -> bool
+    ensures { λ r. ⌜ r ≡ retired f ⌝ }
+{
+    f.kind == crate::NBMA
+}
+
 pub fn dynamic_area_good(a: PerhapsArea) -> bool
     ensures { λ r. ⌜ r ≡ goodDynamic a ⌝ }
 {
@@ -31,7 +39,20 @@ pub fn dynamic_area_good(a: PerhapsArea) -> bool
     }
 }
 
-// The number by which its values refuse a start, where `most` is the largest maximum.
+// 1 where a value is outside its list or range, then 30 where a kind is retired, or 0.
+fn refused_by_values(outside: bool, old: bool) -> u8
+    ensures { λ r. ⌜ r ≡ refusal (1 if outside then 30 if old then []) ⌝ }
+{
+    if outside {
+        return replies::VALUE_OUT_OF_RANGE;
+    }
+    if old {
+        return replies::KIND_RETIRED;
+    }
+    replies::DONE
+}
+
+// The number by which its values refuse a start, where `most` is the largest maximum: 1, 30 in this order, or 0.
 pub fn start_refusal(most: usize, v: StartValues) -> u8
     ensures { λ r. ⌜ r ≡ refusal (startValues most v) ⌝ }
 {
@@ -40,21 +61,15 @@ pub fn start_refusal(most: usize, v: StartValues) -> u8
         & (v.max <= most)
         & interface_ok(v.tvl)
         & interface_ok(v.dgvl);
-    if !good {
-        return replies::VALUE_OUT_OF_RANGE;
-    }
-    replies::DONE
+    refused_by_values(!good, retired(v.tvl) | retired(v.dgvl))
 }
 
-// The number by which its values refuse an enable: 1, or 0.
+// The number by which its values refuse an enable: 1, 30 in this order, or 0.
 pub fn settings_values_refusal(s: Settings) -> u8
     ensures { λ r. ⌜ r ≡ refusal (settingsValues s) ⌝ }
 {
     let f = s.interface;
-    if !interface_ok(f) {
-        return replies::VALUE_OUT_OF_RANGE;
-    }
-    replies::DONE
+    refused_by_values(!interface_ok(f), retired(f))
 }
 
 // The number by which area and prefix refuse an enable: 2, 3 in this order, or 0.
@@ -70,7 +85,7 @@ pub fn ground_refusal(s: Settings) -> u8
     replies::DONE
 }
 
-// The number by which the settings alone refuse an enable: 1, 2, 3 in this order, or 0.
+// The number by which the settings alone refuse an enable: 1, 30, 2, 3 in this order, or 0.
 pub fn settings_refusal(s: Settings) -> u8
     ensures { λ r. ⌜ r ≡ refusal (settingsRules s) ⌝ }
 {

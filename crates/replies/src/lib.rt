@@ -36,3 +36,5 @@ pub const PACKET_SHORT: u8 = 20;
 pub const VERSION_NOT_6: u8 = 21;
 
 pub const LENGTH_FIELD_WRONG: u8 = 22;
+
+pub const KIND_RETIRED: u8 = 30;

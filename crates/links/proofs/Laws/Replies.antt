@@ -27,7 +27,7 @@ done t c e = ap (λ (m : ℕ). answer m t c) e
 
 pub values-numbered : (s : Settings) → Numbered (settingsValues s)
 unfolding settingsValues
-values-numbered s = (lit< tt, tt)
+values-numbered s = (lit< tt, (lit< tt, tt))
 
 ground-numbered : (s : Settings) → Numbered (groundRules s)
 unfolding groundRules
@@ -50,7 +50,7 @@ numbered l (setOwn m) = (lit< tt, tt)
 
 pub start-numbered : (most : ℕ) (v : StartValues) → Numbered (startValues most v)
 unfolding startValues
-start-numbered most v = (lit< tt, tt)
+start-numbered most v = (lit< tt, (lit< tt, tt))
 
 pub start-refused : (most : ℕ) (memory : List Slot) (v : StartValues) (n : ℕ) → n ≡ refusal (startValues most v) → n ≢ 0
     → start most memory v ≡ record { number = n; link = Nothing; table = fresh memory plainStart }

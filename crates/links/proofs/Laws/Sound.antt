@@ -3,7 +3,8 @@ use Prim.Native.Nat.{ℕ, zero, suc, _-_, _^_, _≤_, _<_}
 use native.Mathlib.Omega.{arith}
 use mathlib.Core.Path.{_≡_, refl, sym, _∙_, subst}
 use mathlib.Core.Logic.{_⊎_, inl, inr}
-use mathlib.Core.Bool.{true, and-eq-true-iff}
+use mathlib.Core.Bool.{true, false, and-eq-true-iff}
+use mathlib.Mathlib.Data.Bool.Basic.{or-eq-false-eq-eq-false-and-eq-false}
 use mathlib.Core.List.{List}
 use lib.Dec.{lit≤}
 use lib.ListN.{length, take, set, getD, length-take}
@@ -17,7 +18,7 @@ use Rattle.links.specs.declared.Settings.{Settings}
 use Rattle.links.specs.declared.Slot.{Slot}
 use Rattle.links.specs.declared.StartValues.{StartValues}
 use Rattle.links.specs.declared.Table.{Table}
-use Rattle.links.specs.Settings.{midOk, interfaceOk, settingsRules, sameGround, overlaps}
+use Rattle.links.specs.Settings.{midOk, interfaceOk, retired, settingsRules, sameGround, overlaps}
 use Rattle.links.specs.Slots.{placeOf, Has, free, valueSlots, inUse, counted, slotAt, any, place, unused, enabledCount}
 use Rattle.links.specs.Calls.{TableCall, enable, disable, setArea, setOwn, slotRules, rules, withSlot, withArea, withOwn, goodDynamic, startOk, startValues, cleared, fresh, plainStart, begin, start, startByValue, tableAfter, answer, reply}
 use Rattle.links.specs.Reached.{Reached, started, called, ByValue, Apart, Sound}
@@ -28,16 +29,20 @@ use Rattle.links.proofs.Laws.Slots.{free-has-none, any-none, counted-wi
 use Rattle.links.proofs.Laws.Replaced.{room-with, few-with, rest-with, blank-with, filled, apart-filled, freed}
 use Rattle.links.proofs.Laws.Replies.{settings-numbered, numbered, start-numbered}
 
-start-ok : (most : ℕ) (v : StartValues) → refusal (startValues most v) ≡ 0 → startOk most v ≡ true
+start-ok : (most : ℕ) (v : StartValues) → refusal (startValues most v) ≡ 0 → (startOk most v ≡ true) × (retired (v .tvl) ≡ false) × (retired (v .dgvl) ≡ false)
 unfolding startValues
-start-ok most v e = not-false (startOk most v) (done-exactly (startValues most v) (start-numbered most v) .0 e .0)
+start-ok most v e =
+    let none = done-exactly (startValues most v) (start-numbered most v) .0 e in
+    let kept = simp or-eq-false-eq-eq-false-and-eq-false at (none .1 .0) in
+    (not-false (startOk most v) (none .0), kept .0, kept .1)
 
 module _ (most : ℕ) (memory : List Slot) where
   start-sound : (v : StartValues) → refusal (startValues most v) ≡ 0 → v .max - 1 ≤ length memory → Sound most memory (fresh memory v)
   unfolding fresh
   start-sound v e h =
       let max = v .max in
-      let g = simp and-eq-true-iff at (start-ok most v e) in
+      let ok = start-ok most v e in
+      let g = simp and-eq-true-iff at (ok .0) in
       let run = take (max - 1) (cleared (max - 1) memory) in
       let room : length run ≡ max - 1 = rw (length-take (max - 1) (cleared (max - 1) memory), cleared-length (max - 1) memory) (omega arith) in
       let empty : (k : ℕ) (s : Settings) → Has run k s → ⊥ = λ k s p. free-has-none s (sym (cleared-blank (max - 1) memory k) ∙ p) in
@@ -47,6 +52,8 @@ module _ (most : ℕ) (memory : List Slot) where
         largest = leb-true max most (g .0 .0 .1);
         tvl = g .0 .1;
         dgvl = g .1;
+        tvlKept = ok .1;
+        dgvlKept = ok .2;
         area = refl;
         good = λ k s p. absurd (empty k s p);
         areas = λ j k r s p q m. absurd (empty j r p);
@@ -72,6 +79,8 @@ module _ (most : ℕ) (memory : List Slot) where
         largest = h .largest;
         tvl = h .tvl;
         dgvl = h .dgvl;
+        tvlKept = h .tvlKept;
+        dgvlKept = h .dgvlKept;
         area = h .area;
         good = λ j r p. go j r (filled l k s j r (subst (λ (m : List Slot). Has m j r) now-is p));
         areas = subst (Apart sameGround) (sym now-is) (apart-filled l k s sameGround ground-sym (any-none (λ r. sameGround r s) l (slots .0)) (h .areas));
@@ -104,6 +113,8 @@ module _ (most : ℕ) (memory : List Slot) where
         largest = h .largest;
         tvl = h .tvl;
         dgvl = h .dgvl;
+        tvlKept = h .tvlKept;
+        dgvlKept = h .dgvlKept;
         area = h .area;
         good = λ j s p. h .good j s (back j s p);
         areas = λ j m r s p q. h .areas j m r s (back j r p) (back m s q);
@@ -124,6 +135,8 @@ module _ (most : ℕ) (memory : List Slot) where
         largest = h .largest;
         tvl = h .tvl;
         dgvl = h .dgvl;
+        tvlKept = h .tvlKept;
+        dgvlKept = h .dgvlKept;
         area = area;
         good = h .good;
         areas = h .areas;
@@ -157,6 +170,6 @@ start-reached v = go (refusal (startValues 65 v)) refl
   where
     go : (n : ℕ) → refusal (startValues 65 v) ≡ n → ByValue (begin n valueSlots v .table)
     go zero e =
-        let g = simp and-eq-true-iff at (start-ok 65 v e) in
+        let g = simp and-eq-true-iff at (start-ok 65 v e .0) in
         started v e (omega (arith, leb-true (v .max) 65 (g .0 .0 .1)))
     go (suc n) e = started plainStart refl (lit≤ tt)
