@@ -105,8 +105,8 @@ impl Indication<'_> {
         }
     }
 
-    /// `frame-kind`: an Ethernet frame on a link of kind 1, the packet alone on 2
-    /// and 3; `frame-bytes`.
+    /// `frame-kind`: an Ethernet frame on a link of kind 1, the packet alone on
+    /// every other; `frame-bytes`.
     fn frame(&self, kind: Kind) -> Vec<u8> {
         let mut frame = Vec::new();
         if kind == Kind::EthernetLan {

@@ -1,6 +1,10 @@
-//! Which refusals of its call hold of an indication or a request of a day file,
-//! each asked by itself, whatever the others say. The call gives the first of
-//! them (`reply-first`); the rest shows whether a listing depends on the order.
+//! Which refusals of its call hold of a start, an enable, an indication or a request
+//! of a day file, each asked by itself, whatever the others say. The call gives the
+//! first of them (`reply-first`); the rest shows whether a listing depends on the
+//! order.
+//!
+//! An area that is not good is equal to none (`area-equal`). A prefix that is not
+//! good overlaps by its first bits, as a good one does (`prefix-overlap`).
 //!
 //! A short packet lacks bytes that other conditions name. A condition holds of it
 //! only where all the bytes that its rule names are there: byte 0 for 21; bytes 4
@@ -10,23 +14,60 @@
 use crate::arriving::{Indication, FRAME_HEADER_LENGTH};
 use crate::call::{Call, Destination};
 use crate::leaving::Request;
-use crate::link::Interface;
+use crate::link::{Interface, InterfaceNumbers, RETIRED_KIND};
 use crate::mid::check_mid;
 use crate::packet::{is_multicast, Address, HEADER_LENGTH, LONGEST_PACKET, LOOPBACK, UNSPECIFIED};
 use crate::replay::LENT_TO_AN_INDICATION;
-use crate::table::{Table, DGVL};
+use crate::table::{
+    StartSettings, StopSettings, Table, DGVL, FIRST_STOP, LARGEST_MAXIMUM, SMALLEST_MAXIMUM,
+};
 
 /// A reply number, and whether its condition holds.
 type Condition = (u8, bool);
 
-/// The numbers that hold of the call, in its order; none for calls of other kinds.
-pub fn holding(table: &Table, call: &Call) -> Vec<u8> {
-    let conditions = match call {
-        Call::Indication(indication) => of_indication(indication),
-        Call::Request(request) => of_request(table, request),
+/// The numbers that hold of the call, in its order, where the box has this table,
+/// or none yet. None are asked of a call that is 16 there (`record-order`), nor of
+/// the calls of other kinds, whose refusals exclude each other.
+pub fn holding(table: Option<&Table>, call: &Call) -> Vec<u8> {
+    let conditions = match (table, call) {
+        (None, Call::Start(settings)) => of_start(settings),
+        (Some(table), Call::Enable(settings)) => of_enable(table, settings),
+        (Some(_), Call::Indication(indication)) => of_indication(indication),
+        (Some(table), Call::Request(request)) => of_request(table, request),
         _ => Vec::new(),
     };
     conditions.into_iter().filter(|&(_, holds)| holds).map(|(reply, _)| reply).collect()
+}
+
+/// `start-refusals`.
+fn of_start(settings: &StartSettings) -> Vec<Condition> {
+    let links = [settings.tvl, settings.dgvl];
+    let wide_mid = check_mid(settings.own_mid).is_err();
+    let bad_maximum = !(SMALLEST_MAXIMUM..=LARGEST_MAXIMUM).contains(&settings.maximum);
+    vec![
+        (1, wide_mid || bad_maximum || links.iter().any(is_outside_its_lists)),
+        (30, links.iter().any(|link| link.kind == RETIRED_KIND)),
+    ]
+}
+
+/// `enable-refusals`.
+fn of_enable(table: &Table, settings: &StopSettings) -> Vec<Condition> {
+    let StopSettings { area, prefix, interface } = settings;
+    let stops = &table.stops;
+    vec![
+        (1, is_outside_its_lists(interface)),
+        (30, interface.kind == RETIRED_KIND),
+        (2, !area.is_good()),
+        (3, !prefix.is_good()),
+        (4, stops.values().any(|stop| stop.area.equals(area))),
+        (5, stops.values().any(|stop| stop.prefix.overlaps(prefix))),
+        (6, (FIRST_STOP..=table.maximum).all(|index| stops.contains_key(&index))),
+    ]
+}
+
+/// `kind-list`, `flag-list`.
+fn is_outside_its_lists(link: &InterfaceNumbers) -> bool {
+    !(1..=3).contains(&link.kind) || !(0..=1).contains(&link.flag)
 }
 
 /// `indication-refusals`. A record's transport is in 1..4 and its destination of

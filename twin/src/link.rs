@@ -1,13 +1,19 @@
-//! Interface kind and resolve flag of a link (`kind-list`, `flag-list`).
+//! Interface kind and resolve flag of a link (`kind-list`, `kind-retired`,
+//! `flag-list`).
 
 use crate::reply::Refusal;
 
+/// `kind-list`. No call gives NBMA to a link; a table that no call has reached may
+/// have it, and the calls take every table.
 #[derive(Clone, Copy, Debug, PartialEq, Eq)]
 pub enum Kind {
     EthernetLan,
     Nbma,
     PointToPoint,
 }
+
+/// `kind-retired`: the number of NBMA, which stands in the list all the same.
+pub const RETIRED_KIND: u64 = 2;
 
 /// Kind and flag as the numbers that a caller gives, in range or not.
 #[derive(Clone, Copy, Debug, PartialEq, Eq)]
@@ -16,7 +22,7 @@ pub struct InterfaceNumbers {
     pub flag: u64,
 }
 
-/// Kind and flag of a link that exists.
+/// Kind and flag, each in its list.
 #[derive(Clone, Copy, Debug, PartialEq, Eq)]
 pub struct Interface {
     pub kind: Kind,
@@ -28,7 +34,7 @@ impl InterfaceNumbers {
     pub fn check(self) -> Result<Interface, Refusal> {
         let kind = match self.kind {
             1 => Kind::EthernetLan,
-            2 => Kind::Nbma,
+            RETIRED_KIND => Kind::Nbma,
             3 => Kind::PointToPoint,
             _ => return Err(Refusal::ValueOutsideItsList),
         };
@@ -42,6 +48,14 @@ impl InterfaceNumbers {
 }
 
 impl Interface {
+    /// Reply 30 for a link that would be started or enabled with the retired kind.
+    pub fn check_not_retired(self) -> Result<(), Refusal> {
+        if self.kind == Kind::Nbma {
+            return Err(Refusal::RetiredKind);
+        }
+        Ok(())
+    }
+
     /// `neighbour-mid`: on kind 3, or with flag 1, from the packet's destination.
     pub fn derives_the_mid(self) -> bool {
         self.kind == Kind::PointToPoint || self.resolve
@@ -64,8 +78,20 @@ mod tests {
     }
 
     #[test]
+    fn kind_2_alone_is_retired() {
+        for (kind, answer) in [(1, Ok(())), (2, Err(Refusal::RetiredKind)), (3, Ok(()))] {
+            for flag in 0..=1 {
+                let interface = InterfaceNumbers { kind, flag }.check().unwrap();
+                assert_eq!(interface.check_not_retired(), answer);
+            }
+        }
+    }
+
+    #[test]
     fn outside_the_list() {
-        let pairs = [(0, 0), (4, 0), (257, 0), (u64::MAX, 1), (1, 2), (2, 256), (3, u64::MAX)];
+        // 257 and 258 are 1 and 2 to a type of 8 bits.
+        let pairs =
+            [(0, 0), (4, 0), (257, 0), (258, 1), (u64::MAX, 1), (1, 2), (2, 256), (3, u64::MAX)];
         for (kind, flag) in pairs {
             let answer = InterfaceNumbers { kind, flag }.check();
             assert_eq!(answer, Err(Refusal::ValueOutsideItsList));

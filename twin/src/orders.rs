@@ -1,9 +1,11 @@
-//! What must be seen of the refusals of indications and requests besides their
-//! number: each order, that is, each reply given over a later one whose condition
-//! holds of the same record too; and each cause of 20, 21 and 22.
+//! What must be seen of the refusals of starts, enables, indications and requests
+//! besides their number: each order, that is, each reply given over a later one
+//! whose condition holds of the same record too; and each cause of 20, 21 and 22.
 //!
 //! A program that has the two replies of an order exchanged lists the record with
-//! the later one. So where every order is seen, no exchange goes unnoticed.
+//! the later one. So where every order is seen, no exchange goes unnoticed. The
+//! other calls have no two refusals that hold at once: a disable is 15 for the
+//! indices that always are enabled, and 7 for others.
 
 use crate::call::{kind, Call};
 use crate::conditions::holding;
@@ -13,6 +15,25 @@ use crate::table::Table;
 
 /// A reply, and the later ones of its call's order that it is given over.
 type Orders = &'static [(u8, &'static [u8])];
+
+/// `start-refusals`: 1, 30.
+const ORDERS_OF_START: Orders = &[(1, &[30])];
+
+/// `enable-refusals`: 1, 30, 2, 3, 4, 5, 6.
+///
+/// 1 over 30 is the flag's: a kind outside the list is not the retired one. Missing
+/// is 2 over 4 alone, since an area that is not good is equal to none
+/// (`area-equal`). 3 over 5 is there: which prefixes overlap is asked of good and
+/// bad ones alike, by their first bits (`prefix-overlap`), so that one with a bit
+/// past its length can overlap a stop's.
+const ORDERS_OF_ENABLE: Orders = &[
+    (1, &[30, 2, 3, 4, 5, 6]),
+    (30, &[2, 3, 4, 5, 6]),
+    (2, &[3, 5, 6]),
+    (3, &[4, 5, 6]),
+    (4, &[5, 6]),
+    (5, &[6]),
+];
 
 /// `indication-refusals`: 1, 2, 9, 20, 21, 22, 10, 13.
 ///
@@ -100,14 +121,19 @@ pub struct Situation {
 
 /// Every situation that must be seen: the orders of a kind, then its causes.
 pub fn situations() -> Vec<Situation> {
-    let of_kinds = [(kind::INDICATION, ORDERS_OF_INDICATION), (kind::REQUEST, ORDERS_OF_REQUEST)];
+    let of_kinds: [(u64, Orders, &[Cause]); 4] = [
+        (kind::START, ORDERS_OF_START, &[]),
+        (kind::ENABLE, ORDERS_OF_ENABLE, &[]),
+        (kind::INDICATION, ORDERS_OF_INDICATION, &CAUSES),
+        (kind::REQUEST, ORDERS_OF_REQUEST, &CAUSES),
+    ];
     let mut situations = Vec::new();
-    for (kind, orders) in of_kinds {
+    for (kind, orders, causes) in of_kinds {
         for &(given, later) in orders {
             let held = later.iter().map(|&reply| Besides::Holding(reply));
             situations.extend(held.map(|besides| Situation { kind, given, besides }));
         }
-        situations.extend(CAUSES.map(|(given, name, has_it)| {
+        situations.extend(causes.iter().map(|&(given, name, has_it)| {
             let besides = Besides::Cause(name, has_it);
             Situation { kind, given, besides }
         }));
@@ -129,26 +155,27 @@ impl Situation {
         }
         match self.besides {
             Besides::Holding(later) => record.later.contains(&later),
-            Besides::Cause(_, has_it) => has_it(record.packet),
+            Besides::Cause(_, has_it) => record.packet.is_some_and(has_it),
         }
     }
 }
 
-/// An indication or a request that is refused.
+/// A record that its call refuses.
 struct Refused<'a> {
     kind: u64,
     given: u8,
     /// The replies behind the given one whose conditions hold too.
     later: Vec<u8>,
-    packet: &'a [u8],
+    /// That of an indication or a request.
+    packet: Option<&'a [u8]>,
 }
 
 impl Refused<'_> {
-    fn of_call<'a>(table: &Table, call: &Call<'a>) -> Option<Refused<'a>> {
+    fn of_call<'a>(table: Option<&Table>, call: &Call<'a>) -> Option<Refused<'a>> {
         let packet = match call {
-            Call::Indication(indication) => indication.packet,
-            Call::Request(request) => request.packet,
-            _ => return None,
+            Call::Indication(indication) => Some(indication.packet),
+            Call::Request(request) => Some(request.packet),
+            _ => None,
         };
         let mut holding = holding(table, call).into_iter();
         let given = holding.next()?;
@@ -166,12 +193,11 @@ impl Default for Counts {
 }
 
 impl Counts {
-    /// Counts what a listing of this day file shows. Before the start nothing is
-    /// counted, since 16 comes before the call's own refusals (`record-order`).
+    /// Counts what a listing of this day file shows. Where 16 is listed nothing is
+    /// counted, since it comes before the call's own refusals (`record-order`).
     pub fn add(&mut self, input: &[u8]) {
         for_each_call(up_to_the_limit(input), |replay, call| {
-            let record = replay.table().and_then(|table| Refused::of_call(table, call));
-            if let Some(record) = record {
+            if let Some(record) = Refused::of_call(replay.table(), call) {
                 self.add_record(&record);
             }
         });

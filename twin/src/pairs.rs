@@ -19,8 +19,8 @@ pub type Pair = (RecordKind, u8);
 /// (`listing-lent`). In an indication 1 is left for its MIDs only, since a
 /// transport outside 1..4 is broken and the sort follows from the transport.
 const REPLIES_OF_KIND: [(u64, &[u8]); 7] = [
-    (kind::START, &[0, 1, 14, 16]),
-    (kind::ENABLE, &[0, 1, 2, 3, 4, 5, 6, 14, 16]),
+    (kind::START, &[0, 1, 14, 16, 30]),
+    (kind::ENABLE, &[0, 1, 2, 3, 4, 5, 6, 14, 16, 30]),
     (kind::DISABLE, &[0, 7, 14, 15, 16]),
     (kind::DGVL_AREA, &[0, 2, 14, 16]),
     (kind::OWN_MID, &[0, 1, 14, 16]),
@@ -88,7 +88,7 @@ mod tests {
     #[test]
     fn the_number_of_allowed_pairs() {
         let pairs = allowed_pairs();
-        assert_eq!(pairs.len(), 4 + 9 + 5 + 4 + 4 + 10 + 12 + 2);
+        assert_eq!(pairs.len(), 5 + 10 + 5 + 4 + 4 + 10 + 12 + 2);
         assert!(pairs.iter().all(|&(_, reply)| reply != 13));
     }
 

@@ -31,6 +31,8 @@ pub enum Refusal {
     VersionNot6 = 21,
     /// Payload length field + 40 is not the packet's length.
     LengthFieldWrong = 22,
+    /// Kind 2, NBMA.
+    RetiredKind = 30,
 }
 
 impl Refusal {
@@ -41,7 +43,7 @@ impl Refusal {
 
 /// Every refusal, in the order of the numbers.
 #[cfg(test)]
-pub const EVERY_REFUSAL: [Refusal; 18] = [
+pub const EVERY_REFUSAL: [Refusal; 19] = [
     Refusal::ValueOutsideItsList,
     Refusal::AreaNotGood,
     Refusal::PrefixNotGood,
@@ -60,6 +62,7 @@ pub const EVERY_REFUSAL: [Refusal; 18] = [
     Refusal::PacketShort,
     Refusal::VersionNot6,
     Refusal::LengthFieldWrong,
+    Refusal::RetiredKind,
 ];
 
 #[cfg(test)]
@@ -69,6 +72,6 @@ mod tests {
     #[test]
     fn the_numbers_of_the_rules() {
         let numbers = EVERY_REFUSAL.map(Refusal::number);
-        assert_eq!(numbers, [1, 2, 3, 4, 5, 6, 7, 9, 10, 11, 12, 13, 14, 15, 16, 20, 21, 22]);
+        assert_eq!(numbers, [1, 2, 3, 4, 5, 6, 7, 9, 10, 11, 12, 13, 14, 15, 16, 20, 21, 22, 30]);
     }
 }

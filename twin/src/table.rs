@@ -71,12 +71,16 @@ impl Table {
         }
     }
 
+    /// `start-refusals`: 1, 30.
     fn try_start(settings: &StartSettings) -> Result<Table, Refusal> {
         check_mid(settings.own_mid)?;
         if !(SMALLEST_MAXIMUM..=LARGEST_MAXIMUM).contains(&settings.maximum) {
             return Err(Refusal::ValueOutsideItsList);
         }
+        // 1 of either link comes before 30 of the other.
         let (tvl, dgvl) = (settings.tvl.check()?, settings.dgvl.check()?);
+        tvl.check_not_retired()?;
+        dgvl.check_not_retired()?;
         Ok(Table::fresh(settings.own_mid, settings.maximum, tvl, dgvl))
     }
 
@@ -89,9 +93,10 @@ impl Table {
         Table { own_mid, maximum, tvl, dgvl, dgvl_area: None, stops: BTreeMap::new() }
     }
 
-    /// `enable-refusals`: 1, 2, 3, 4, 5, 6. The answer is the new link's index.
+    /// `enable-refusals`: 1, 30, 2, 3, 4, 5, 6. The answer is the new link's index.
     pub fn enable(&mut self, settings: &StopSettings) -> Result<u64, Refusal> {
         let interface = settings.interface.check()?;
+        interface.check_not_retired()?;
         if !settings.area.is_good() {
             return Err(Refusal::AreaNotGood);
         }

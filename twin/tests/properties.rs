@@ -3,6 +3,7 @@
 use twin::generate::random::Random;
 use twin::generate::themes;
 use twin::generate::{day_file, FILES_OF_A_ROUND};
+use twin::link::Kind;
 use twin::listing::{lines, listing, print, MOST_INPUT};
 use twin::read::read_record;
 use twin::replay::Replay;
@@ -78,6 +79,9 @@ fn tables_keep_what_the_rules_say_of_them() {
             let stops: Vec<_> = table.stops.values().collect();
             assert!(table.stops.keys().all(|index| (2..=table.maximum).contains(index)));
             assert!(stops.iter().all(|stop| stop.area.is_good() && stop.prefix.is_good()));
+            let of_stops = stops.iter().map(|stop| stop.interface);
+            let mut links = of_stops.chain([table.tvl, table.dgvl]);
+            assert!(links.all(|link| link.kind != Kind::Nbma), "kind-retired");
             for (place, stop) in stops.iter().enumerate() {
                 for other in &stops[place + 1..] {
                     assert!(!stop.area.equals(&other.area));

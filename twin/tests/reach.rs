@@ -6,17 +6,24 @@ use std::collections::BTreeMap;
 
 use twin::alike;
 use twin::arriving::Indication;
-use twin::call::{Call, Destination, TSB};
+use twin::call::{kind, Call, Destination, TSB};
 use twin::generate::{day_file, FILES_OF_A_ROUND};
 use twin::leaving::Request;
-use twin::listing::{lines, MOST_INPUT};
+use twin::link::RETIRED_KIND;
+use twin::listing::{lines, Line, RecordKind, MOST_INPUT};
+use twin::mid::LARGEST_MID;
 use twin::orders::Counts;
 use twin::pairs::{allowed_pairs, Seen};
 use twin::read::read_record;
 use twin::replay::{Answer, Replay};
-use twin::table::Table;
+use twin::reply::Refusal;
+use twin::table::{StartSettings, Table};
 
 const FILES: u64 = 300;
+
+/// In the order of `record-start`.
+const VALUES_OF_START: [&str; 6] =
+    ["own MID", "maximum", "TVL kind", "TVL flag", "DGVL kind", "DGVL flag"];
 
 #[derive(Default)]
 struct Situations(BTreeMap<String, u64>);
@@ -26,8 +33,33 @@ impl Situations {
         *self.0.entry(situation.into()).or_default() += 1;
     }
 
+    /// Which links of a start in its place have kind 2, and which values beside it are
+    /// outside their lists.
+    fn of_start(&mut self, settings: &StartSettings, reply: u8) {
+        let StartSettings { own_mid, maximum, tvl, dgvl } = settings;
+        let retired = [tvl, dgvl].map(|link| link.kind == RETIRED_KIND);
+        if retired == [false, false] {
+            return;
+        }
+        self.add(format!("start {reply}, kind 2 of TVL and DGVL {retired:?}"));
+        let outside = [
+            *own_mid > LARGEST_MID,
+            !(2..=65).contains(maximum),
+            !(1..=3).contains(&tvl.kind),
+            tvl.flag > 1,
+            !(1..=3).contains(&dgvl.kind),
+            dgvl.flag > 1,
+        ];
+        for (name, _) in VALUES_OF_START.iter().zip(outside).filter(|(_, outside)| *outside) {
+            self.add(format!("start {reply}, kind 2 beside {name}"));
+        }
+    }
+
     fn of_call(&mut self, table: &Table, call: &Call, answer: Answer) {
         match call {
+            Call::Start(settings) if Table::start(settings).0 == Err(Refusal::RetiredKind) => {
+                self.add("second start that would be 30")
+            }
             Call::Enable(_) if answer.reply == 6 => self.add(format!("full {}", table.maximum)),
             Call::Enable(settings) if answer.reply == 0 => {
                 self.add(format!("prefix length {}", settings.prefix.length));
@@ -81,8 +113,10 @@ fn situations() -> Situations {
         while let Ok((call, behind)) = read_record(bytes, offset) {
             let before = replay.table().cloned();
             let answer = replay.call(&call);
-            if let Some(table) = before {
-                situations.of_call(&table, &call, answer);
+            match (before, call) {
+                (Some(table), call) => situations.of_call(&table, &call, answer),
+                (None, Call::Start(settings)) => situations.of_start(&settings, answer.reply),
+                (None, _) => {}
             }
             offset = behind;
         }
@@ -99,9 +133,14 @@ fn wanted() -> Vec<String> {
         "destination held false, source held true",
         "request 3 area on 1",
         "request 3 area on 2",
+        "second start that would be 30",
     ]
     .map(String::from)
     .to_vec();
+    for retired in [[true, false], [false, true], [true, true]] {
+        wanted.push(format!("start 30, kind 2 of TVL and DGVL {retired:?}"));
+    }
+    wanted.extend(VALUES_OF_START.map(|name| format!("start 1, kind 2 beside {name}")));
     wanted.extend([2, 3, 4, 5, 65].map(|maximum| format!("full {maximum}")));
     wanted.extend((0..=128).map(|length| format!("prefix length {length}")));
     for transport in 1..TSB {
@@ -145,6 +184,26 @@ fn the_files_reach_every_order_and_cause() {
             let (kind, name) = (situation.kind, situation.name());
             assert!(*count > 0, "seed {seed}, kind {kind}: {name}");
         }
+    }
+}
+
+/// Whether a start is 30 on this day, the record behind it 16, and a later start 0.
+fn goes_on_behind_30(lines: &[Line]) -> bool {
+    let is_start = |line: &Line, reply: u8| {
+        (line.kind, line.answer.reply) == (RecordKind::Known(kind::START), reply)
+    };
+    let refused = lines.iter().position(|line| is_start(line, 30));
+    let behind = refused.map_or(&[][..], |place| &lines[place + 1..]);
+    behind.first().is_some_and(|line| line.answer.reply == 16)
+        && behind.iter().any(|line| is_start(line, 0))
+}
+
+#[test]
+fn a_small_share_of_the_days_goes_on_behind_a_start_of_kind_2() {
+    for seed in [1, 2, u64::MAX] {
+        let days = (0..FILES).map(|number| lines(&day_file(seed, number)));
+        let count = days.filter(|lines| goes_on_behind_30(lines)).count() as u64;
+        assert!((FILES / 25..=FILES / 8).contains(&count), "seed {seed}: {count}");
     }
 }
 

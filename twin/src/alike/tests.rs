@@ -175,12 +175,15 @@ fn an_enable_is_counted_where_4_is_its_first_refusal_or_would_be() {
     let prefix = Prefix { length: 8, bytes: [0x20, 0, 0, 0, 0, 0, 0, 0, 0, 0, 0, 0, 0, 0, 0, 0] };
     let bad_prefix = Prefix { length: 2, ..prefix };
     let square = area(RECTANGLE, 5, 5, 20);
+    let interface = InterfaceNumbers { kind: 2, flag: 1 };
+    let retired = StopSettings { area: square, prefix: NO_PREFIX, interface };
     let near = (Caller::Enable, "near miss: square turned by 45".to_string());
     for (maximum, given, expected) in [
-        // 0, 5, 6, 2 and 3
+        // 0, 5, 6, 30, 2 and 3
         (3, enable(square.turned(45), NO_PREFIX), vec![near.clone()]),
         (3, enable(square.turned(45), prefix), vec![near.clone()]),
         (2, enable(square.turned(45), NO_PREFIX), vec![near]),
+        (3, Call::Enable(retired), vec![]),
         (3, enable(Area { angle: 360, ..square }, NO_PREFIX), vec![]),
         (3, enable(square, bad_prefix), vec![]),
     ] {

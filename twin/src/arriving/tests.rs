@@ -43,12 +43,12 @@ fn tsb(packet: &[u8]) -> Indication<'_> {
     Indication { transport: TSB, destination: Destination::Nothing, ..unicast(packet) }
 }
 
-/// Fixed links of kinds 1 and 2; stop 2 has AREA and 2000::/8 on kind 3, stop 3
-/// has 3000::/8 on kind 1, stop 4 no prefix.
+/// Fixed links of kinds 1 and 3; stop 2 has AREA and 2000::/8 on kind 3, stop 3
+/// has 3000::/8 on kind 1, stop 4 no prefix on kind 3.
 fn table() -> Table {
-    let settings = StartSettings { own_mid: 1, maximum: 65, tvl: numbers(1), dgvl: numbers(2) };
+    let settings = StartSettings { own_mid: 1, maximum: 65, tvl: numbers(1), dgvl: numbers(3) };
     let mut table = Table::start(&settings).1;
-    for (angle, first, length, kind) in [(30, 0x20, 8, 3), (31, 0x30, 8, 1), (32, 0, 0, 2)] {
+    for (angle, first, length, kind) in [(30, 0x20, 8, 3), (31, 0x30, 8, 1), (32, 0, 0, 3)] {
         let mut bytes = [0; 16];
         bytes[0] = first;
         let area = Area { angle, ..AREA };
@@ -148,8 +148,12 @@ fn the_dgvl_needs_no_area_and_its_area_chooses_nothing() {
 }
 
 fn assert_frame(indication: &Indication, link: u64, header: &[u8]) {
+    assert_frame_of(&table(), indication, link, header);
+}
+
+fn assert_frame_of(table: &Table, indication: &Indication, link: u64, header: &[u8]) {
     let mut buffer = [0xAA; 1_294];
-    let delivery = table().indication(indication, &mut buffer).unwrap();
+    let delivery = table.indication(indication, &mut buffer).unwrap();
     let length = header.len() + indication.packet.len();
     let expected = Delivery { link, length, source: SOURCE_MID, class: 7 };
     assert_eq!(delivery, expected);
@@ -172,6 +176,17 @@ fn frames_for_each_kind_of_link() {
     }
     assert_frame(&unicast(&outside), DGVL, &[]);
     assert_frame(&to_area(AREA, &inside), 2, &[]);
+}
+
+/// `frame-kind` speaks of kind 2 too, though no call makes a link of it.
+#[test]
+fn the_packet_alone_on_kind_2_in_a_table_that_no_call_has_reached() {
+    let inside = packet(address(0x40), address(0x30));
+    let mut table = table();
+    table.tvl.kind = Kind::Nbma;
+    table.stops.get_mut(&3).unwrap().interface.kind = Kind::Nbma;
+    assert_frame_of(&table, &tsb(&inside), 0, &[]);
+    assert_frame_of(&table, &unicast(&inside), 3, &[]);
 }
 
 fn assert_refused(indication: &Indication, room: usize, refusal: Refusal) {

@@ -1,19 +1,31 @@
 use super::*;
-use crate::call::TSB;
+use crate::area::{Area, CIRCLE};
+use crate::call::{kind, TSB};
 use crate::generate::day_file;
-use crate::link::InterfaceNumbers;
-use crate::listing::{lines, up_to_the_limit, RecordKind};
+use crate::listing::{lines, up_to_the_limit, Line, RecordKind};
+use crate::mid::LARGEST_MID;
 use crate::packet::check_packet;
+use crate::prefix::Prefix;
 use crate::replay::for_each_call;
-use crate::table::StartSettings;
+use crate::reply::Refusal;
 
 const MULTICAST: Address = [0xFF; 16];
 const PLAIN: Address = [0x21; 16];
 
+const LAN: InterfaceNumbers = InterfaceNumbers { kind: 1, flag: 1 };
+const START: StartSettings = StartSettings { own_mid: 1, maximum: 2, tvl: LAN, dgvl: LAN };
+
 fn table(flag: u64) -> Table {
     let interface = InterfaceNumbers { kind: 1, flag };
-    let settings = StartSettings { own_mid: 1, maximum: 2, tvl: interface, dgvl: interface };
-    Table::start(&settings).1
+    Table::start(&StartSettings { tvl: interface, dgvl: interface, ..START }).1
+}
+
+/// A circle and 2000::/9.
+fn stop() -> StopSettings {
+    let area = Area { shape: CIRCLE, latitude: 0, longitude: 0, a: 5, b: 0, angle: 0 };
+    let mut bytes = [0; 16];
+    bytes[0] = 0x20;
+    StopSettings { area, prefix: Prefix { length: 9, bytes }, interface: LAN }
 }
 
 /// From ::1, of version 4 and with a wrong length field.
@@ -22,7 +34,7 @@ fn packet(to: Address) -> Vec<u8> {
 }
 
 fn of_sent(table: &Table, packet: &[u8]) -> Vec<u8> {
-    holding(table, &Call::Request(Request { index: DGVL, class: 0, neighbour: None, packet }))
+    holding(Some(table), &Call::Request(Request { index: DGVL, class: 0, neighbour: None, packet }))
 }
 
 /// The lengths at which the condition of the reply holds of a request on the DGVL.
@@ -49,7 +61,56 @@ fn of_a_short_packet_a_condition_needs_the_bytes_that_it_names() {
 }
 
 #[test]
-fn conditions_do_not_hide_each_other() {
+fn conditions_of_a_start() {
+    let link = |kind, flag| InterfaceNumbers { kind, flag };
+    for (settings, expected) in [
+        (START, &[][..]),
+        (StartSettings { tvl: link(3, 0), dgvl: link(3, 1), ..START }, &[]),
+        (StartSettings { own_mid: LARGEST_MID + 1, ..START }, &[1]),
+        (StartSettings { dgvl: link(4, 1), ..START }, &[1]),
+        (StartSettings { tvl: link(2, 0), ..START }, &[30]),
+        (StartSettings { dgvl: link(2, 1), ..START }, &[30]),
+        (StartSettings { tvl: link(2, 2), ..START }, &[1, 30]),
+        (StartSettings { tvl: link(4, 1), dgvl: link(2, 1), ..START }, &[1, 30]),
+        (StartSettings { maximum: 66, dgvl: link(2, 1), ..START }, &[1, 30]),
+    ] {
+        assert_eq!(holding(None, &Call::Start(settings)), expected, "{settings:?}");
+        assert_eq!(holding(Some(&table(1)), &Call::Start(settings)), [], "a second one is 16");
+    }
+}
+
+#[test]
+fn conditions_of_an_enable() {
+    let mut full = table(1);
+    assert_eq!(holding(Some(&full), &Call::Enable(stop())), []);
+    full.enable(&stop()).unwrap();
+    let retired = InterfaceNumbers { kind: 2, flag: 0 };
+    let also_bad_flag = InterfaceNumbers { flag: 2, ..retired };
+    // The area, as it is not good, is equal to none; the prefix, with a bit past its
+    // length, still overlaps by its first nine.
+    let bad_area = Area { angle: 360, ..stop().area };
+    let mut bad_prefix = stop().prefix;
+    bad_prefix.bytes[1] = 1;
+    let elsewhere = Area { latitude: 1, ..stop().area };
+    for (settings, expected) in [
+        (stop(), &[4, 5, 6][..]),
+        (StopSettings { area: elsewhere, ..stop() }, &[5, 6]),
+        (StopSettings { prefix: bad_prefix, ..stop() }, &[3, 4, 5, 6]),
+        (StopSettings { area: bad_area, ..stop() }, &[2, 5, 6]),
+        (StopSettings { interface: retired, ..stop() }, &[30, 4, 5, 6]),
+        (StopSettings { interface: also_bad_flag, ..stop() }, &[1, 30, 4, 5, 6]),
+        (
+            StopSettings { area: bad_area, prefix: bad_prefix, interface: also_bad_flag },
+            &[1, 30, 2, 3, 5, 6],
+        ),
+    ] {
+        assert_eq!(holding(Some(&full), &Call::Enable(settings)), expected, "{settings:?}");
+        assert_eq!(holding(None, &Call::Enable(settings)), [], "before the start it is 16");
+    }
+}
+
+#[test]
+fn conditions_of_traffic_do_not_hide_each_other() {
     let table = table(1);
     assert_eq!(of_sent(&table, &packet(PLAIN)), [21, 22, 10, 12]);
     assert_eq!(of_sent(&table, &packet(MULTICAST)), [21, 22, 10, 11]);
@@ -57,8 +118,8 @@ fn conditions_do_not_hide_each_other() {
     let destination = Destination::Nothing;
     let indication =
         Indication { transport: TSB, source: u64::MAX, class: 0, destination, packet: &long };
-    assert_eq!(holding(&table, &Call::Indication(indication)), [1, 9, 21, 22, 10, 13]);
-    assert_eq!(holding(&table, &Call::Disable(0)), []);
+    assert_eq!(holding(Some(&table), &Call::Indication(indication)), [1, 9, 21, 22, 10, 13]);
+    assert_eq!(holding(Some(&table), &Call::Disable(0)), []);
 }
 
 #[test]
@@ -79,15 +140,18 @@ fn the_packets_part_is_that_of_the_calls() {
 /// `reply-first`: the first that holds is listed, and 0 where none does.
 #[test]
 fn the_first_that_holds_is_listed() {
+    let kinds = [kind::START, kind::ENABLE, kind::INDICATION, kind::REQUEST];
     for number in 0..100 {
         let day = day_file(21, number);
         let mut listed = lines(&day).into_iter();
         for_each_call(up_to_the_limit(&day), |replay, call| {
-            let line = listed.next().unwrap();
-            let traffic = [RecordKind::Known(6), RecordKind::Known(7)].contains(&line.kind);
-            let Some(table) = replay.table().filter(|_| traffic) else { return };
-            let first = holding(table, call).first().copied();
-            assert_eq!(line.answer.reply, first.unwrap_or(0), "file {number}");
+            let Line { kind, answer } = listed.next().unwrap();
+            let asked = kinds.map(RecordKind::Known).contains(&kind);
+            if !asked || answer.reply == Refusal::StartOutOfPlace.number() {
+                return;
+            }
+            let first = holding(replay.table(), call).first().copied();
+            assert_eq!(answer.reply, first.unwrap_or(0), "file {number}");
         });
     }
 }

@@ -5,10 +5,9 @@ use super::areas;
 use super::day::Day;
 use super::joined::{self, Pair};
 use super::near;
-use super::packets;
 use super::random::Random;
 use crate::area::{EAST_END, WEST_END};
-use crate::call::{Call, Destination, GEO_ANYCAST, GEO_BROADCAST};
+use crate::call::{Call, GEO_ANYCAST, GEO_BROADCAST};
 use crate::prefix::NO_PREFIX;
 
 /// Each pair where it lies and at the two ends of the longitudes, and chains.
@@ -58,10 +57,7 @@ fn compare_both_ways(day: &mut Day, (one, other): Pair) {
     for (of_stop, given) in [(one, other), (other, one)] {
         let stop = day.enable_with(of_stop, NO_PREFIX);
         for transport in [GEO_ANYCAST, GEO_BROADCAST] {
-            let source = packets::with_identifier(&mut day.random);
-            let to = packets::multicast(&mut day.random);
-            let packet = packets::packet(&mut day.random, &source, &to, 40);
-            day.indicate(transport, Destination::Area(given), &packet);
+            day.indicate_to_area(transport, given);
         }
         let second = day.enable_with(given, NO_PREFIX);
         for index in [stop.link, second.link].into_iter().flatten() {

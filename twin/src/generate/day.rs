@@ -9,7 +9,7 @@ use crate::arriving::Indication;
 use crate::call::{kind, Call, Destination, GEO_UNICAST, TSB};
 use crate::leaving::Request;
 use crate::link::InterfaceNumbers;
-use crate::prefix::{Prefix, NO_PREFIX};
+use crate::prefix::Prefix;
 use crate::replay::{Answer, Replay};
 use crate::table::{StartSettings, StopSettings, Table};
 use crate::write::record_bytes;
@@ -20,7 +20,7 @@ pub type Weights = [u64; 7];
 #[derive(Clone)]
 pub struct Day {
     pub random: Random,
-    /// How many percent of the values are out of range or spoiled.
+    /// How many percent of the values are out of range, retired or spoiled.
     pub bad: u64,
     /// How many percent of the packets have a length at a bound.
     pub long: u64,
@@ -110,14 +110,14 @@ impl Day {
         self.add(&Call::Enable(StopSettings { area, prefix, interface }))
     }
 
-    /// One stop of each kind and flag: 2 to 7 after the start.
+    /// One stop of each kind that links can have and each flag: 2 to 5 after the
+    /// start.
     pub fn enable_each_interface(&mut self) {
-        for kind in 1..=3 {
-            for flag in 0..=1 {
-                let area = areas::fresh(&mut self.random);
-                let interface = InterfaceNumbers { kind, flag };
-                self.add(&Call::Enable(StopSettings { area, prefix: NO_PREFIX, interface }));
-            }
+        for (block, kind, flag) in [(0, 1, 0), (1, 1, 1), (2, 3, 0), (3, 3, 1)] {
+            let area = areas::fresh(&mut self.random);
+            let prefix = prefixes::of_block(&mut self.random, block);
+            let interface = InterfaceNumbers { kind, flag };
+            self.add(&Call::Enable(StopSettings { area, prefix, interface }));
         }
     }
 
@@ -125,6 +125,14 @@ impl Day {
         let source = values::mid(&mut self.random, self.bad);
         let class = self.random.byte();
         self.add(&Call::Indication(Indication { transport, source, class, destination, packet }))
+    }
+
+    /// What arrives for this area without another fault.
+    pub fn indicate_to_area(&mut self, transport: u64, area: Area) -> Answer {
+        let source = packets::with_identifier(&mut self.random);
+        let to = packets::multicast(&mut self.random);
+        let packet = packets::packet(&mut self.random, &source, &to, 40);
+        self.indicate(transport, Destination::Area(area), &packet)
     }
 
     pub fn request_on(&mut self, index: u64, neighbour: Option<u64>, packet: &[u8]) -> Answer {
@@ -158,6 +166,13 @@ impl Day {
         self.request_on(index, neighbour, &packet)
     }
 
+    /// Area and prefix of a stop, new or like those that the table knows.
+    pub fn area_and_prefix(&mut self) -> (Area, Prefix) {
+        let known = self.known_prefixes();
+        let prefix = prefixes::any(&mut self.random, &known, self.bad);
+        (self.area(), prefix)
+    }
+
     fn any_dgvl_area(&mut self) -> Answer {
         let area = self.random.percent(70).then(|| self.area());
         self.add(&Call::DgvlArea(area))
@@ -171,9 +186,7 @@ impl Day {
                 self.start(maximum)
             }
             kind::ENABLE => {
-                let prefixes = self.known_prefixes();
-                let prefix = prefixes::any(&mut self.random, &prefixes, self.bad);
-                let area = self.area();
+                let (area, prefix) = self.area_and_prefix();
                 self.enable_with(area, prefix)
             }
             kind::DISABLE => {

@@ -1,16 +1,29 @@
-//! Days of indications and requests with several faults at once: which reply is
-//! listed then depends on the order of the refusals.
+//! Days of enables, indications and requests with several faults at once: which
+//! reply is listed then depends on the order of the refusals.
 
 use super::day::Day;
 use super::packets;
 use super::random::Random;
-use super::{areas, values};
+use super::{areas, prefixes, values};
+use crate::area::Area;
 use crate::arriving::Indication;
 use crate::call::{Call, Destination, GEO_ANYCAST, GEO_BROADCAST, GEO_UNICAST};
 use crate::leaving::Request;
+use crate::link::{InterfaceNumbers, RETIRED_KIND};
 use crate::packet::{Address, LOOPBACK};
+use crate::prefix::{Prefix, NO_PREFIX};
 use crate::reply::Refusal::{self, *};
-use crate::table::DGVL;
+use crate::table::{StopSettings, DGVL};
+
+/// `enable-refusals`, but for 6, which each enable has besides in a full table.
+const OF_ENABLE: [Refusal; 6] = [
+    ValueOutsideItsList,
+    RetiredKind,
+    AreaNotGood,
+    PrefixNotGood,
+    AreaEqualToAStops,
+    PrefixOverlapsAStops,
+];
 
 /// `indication-refusals`, but for 13, which each long packet has besides.
 const OF_INDICATION: [Refusal; 7] = [
@@ -60,16 +73,70 @@ impl Faults {
     }
 }
 
-/// The DGVL of this day never has an area, so that 11 needs multicast alone.
+/// The DGVL of this day never has an area, so that 11 needs multicast alone. Behind
+/// the first four each enable is refused; in half of these days they fill the table.
 pub fn several_faults(random: Random) -> Day {
     let mut day = Day::new(random, 0);
-    day.good_start(9);
+    let maximum = day.random.pick(&[5, 9]);
+    day.good_start(maximum);
     day.enable_each_interface();
     for _ in 0..50 {
+        add_enable(&mut day);
         add_indication(&mut day);
         add_request(&mut day);
     }
     day
+}
+
+fn add_enable(day: &mut Day) {
+    let (known_areas, known_prefixes) = (day.known_areas(), day.known_prefixes());
+    let random = &mut day.random;
+    let faults = Faults::any(random, &OF_ENABLE);
+    let area = faulty_area(random, &faults, &known_areas);
+    let prefix = faulty_prefix(random, &faults, &known_prefixes);
+    let interface = faulty_interface(random, &faults);
+    day.add(&Call::Enable(StopSettings { area, prefix, interface }));
+}
+
+/// Where it is to be equal to a stop's and not good, it is a stop's area spoiled.
+fn faulty_area(random: &mut Random, faults: &Faults, known: &[Area]) -> Area {
+    let mut area = areas::fresh(random);
+    if faults.has(AreaEqualToAStops) {
+        let of_stop = random.pick(known);
+        area = areas::described_otherwise(random, &of_stop);
+    }
+    match faults.has(AreaNotGood) {
+        true => areas::spoiled(random, &area),
+        false => area,
+    }
+}
+
+fn faulty_prefix(random: &mut Random, faults: &Faults, known: &[Prefix]) -> Prefix {
+    let of_stop = random.pick(known);
+    match (faults.has(PrefixNotGood), faults.has(PrefixOverlapsAStops)) {
+        (true, true) => prefixes::with_bit_past_length(random, &of_stop),
+        (true, false) => {
+            let fresh = prefixes::fresh(random);
+            prefixes::with_bit_past_length(random, &fresh)
+        }
+        (false, true) => prefixes::nested(random, &of_stop),
+        (false, false) => NO_PREFIX,
+    }
+}
+
+fn faulty_interface(random: &mut Random, faults: &Faults) -> InterfaceNumbers {
+    let mut interface = values::interface(random, 0);
+    let (outside, retired) = (faults.has(ValueOutsideItsList), faults.has(RetiredKind));
+    if retired {
+        interface.kind = RETIRED_KIND;
+    }
+    // Beside the retired kind only the flag can be outside its list.
+    if outside && (retired || random.percent(50)) {
+        interface.flag = values::flag(random, 100);
+    } else if outside {
+        interface.kind = values::kind_outside(random);
+    }
+    interface
 }
 
 fn add_indication(day: &mut Day) {
@@ -98,7 +165,7 @@ fn add_request(day: &mut Day) {
     } else if faults.has(MulticastWithoutArea) {
         DGVL
     } else {
-        random.below(8)
+        random.below(6)
     };
     let to = if faults.has(MulticastWithoutArea) {
         packets::multicast(random)

@@ -1,6 +1,7 @@
 //! The seeded generator of day files. The number of a file decides its theme,
 //! so that every theme comes up in each round of files. Damaged days have a large
-//! share, since each of them can be broken in one place only.
+//! share, since each of them can be broken in one place only. Those with a start of
+//! kind 2 have a small one, since behind it all is 16 up to the next start.
 
 pub mod areas;
 pub mod compared;
@@ -14,13 +15,18 @@ pub mod packets;
 pub mod prefixes;
 pub mod random;
 pub mod sizes;
+pub mod starts;
 pub mod themes;
 pub mod values;
+pub mod winter;
 
 use crate::table::LARGEST_MAXIMUM;
 use random::Random;
 
-pub const FILES_OF_A_ROUND: u64 = 29;
+/// An odd number: `compare` can feed every second file in pieces, and so each theme
+/// comes in pieces in every second round.
+pub const FILES_OF_A_ROUND: u64 = 31;
+const _: () = assert!(FILES_OF_A_ROUND % 2 == 1);
 
 /// The file of this number under this seed.
 pub fn day_file(seed: u64, number: u64) -> Vec<u8> {
@@ -38,13 +44,14 @@ pub fn day_file(seed: u64, number: u64) -> Vec<u8> {
         7 | 8 => themes::packet_bounds(random).into_bytes(),
         9 => themes::requests(random).into_bytes(),
         10 => themes::out_of_range(random).into_bytes(),
-        11 => themes::starts(random).into_bytes(),
-        12 | 13 => themes::mixed(random).into_bytes(),
-        14 => faults::several_faults(random).into_bytes(),
-        15..=23 => damage::damaged(random),
-        24 => noise::bytes_changed(random),
-        25 => noise::cut_or_shifted(random),
-        26 => noise::formless(random),
+        11 => starts::starts(random).into_bytes(),
+        12 => winter::last_winter(random).into_bytes(),
+        13 | 14 => themes::mixed(random).into_bytes(),
+        15 | 16 => faults::several_faults(random).into_bytes(),
+        17..=25 => damage::damaged(random),
+        26 => noise::bytes_changed(random),
+        27 => noise::cut_or_shifted(random),
+        28 => noise::formless(random),
         _ => sizes::around_the_limit(random),
     }
 }

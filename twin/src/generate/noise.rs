@@ -44,7 +44,7 @@ pub fn formless(mut random: Random) -> Vec<u8> {
 
 /// Small numbers, most of them record kinds: many short records.
 fn record_like(mut random: Random, length: usize) -> Vec<u8> {
-    let mut bytes = vec![1, 5, 9, 1, 0, 2, 1];
+    let mut bytes = vec![1, 5, 9, 1, 0, 3, 1];
     while bytes.len() < length {
         let byte = random.pick(&[3, 3, 3, 5, 5, 5, 0, 1, 2, 4, 64, 127]);
         bytes.push(byte);

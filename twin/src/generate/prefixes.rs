@@ -44,12 +44,16 @@ pub fn fresh(random: &mut Random) -> Prefix {
     }
 }
 
-/// Equal, longer, shorter, or the neighbour with the last bit turned.
-pub fn related(random: &mut Random, to: &Prefix) -> Prefix {
-    if to.length == 0 {
-        return fresh(random);
-    }
-    match random.below(5) {
+/// A good prefix of the block of this number, of eight that lie apart.
+pub fn of_block(random: &mut Random, number: u8) -> Prefix {
+    let mut address: [u8; 16] = random.bytes();
+    address[0] = 0x20 | number << 2 | address[0] & 0x03;
+    first_bits(&address, random.between(6, 128))
+}
+
+/// Equal, longer or shorter, for one whose length is above 0: the two overlap.
+pub fn nested(random: &mut Random, to: &Prefix) -> Prefix {
+    match random.below(3) {
         0 => *to,
         1 => {
             // The first bits as they are, random ones behind them.
@@ -58,7 +62,17 @@ pub fn related(random: &mut Random, to: &Prefix) -> Prefix {
             let bits = u128::from_be_bytes(to.bytes) | tail & behind;
             first_bits(&bits.to_be_bytes(), random.between(to.length, 128))
         }
-        2 => first_bits(&to.bytes, random.between(1, to.length)),
+        _ => first_bits(&to.bytes, random.between(1, to.length)),
+    }
+}
+
+/// Equal, longer, shorter, or the neighbour with a bit turned, often the last.
+pub fn related(random: &mut Random, to: &Prefix) -> Prefix {
+    if to.length == 0 {
+        return fresh(random);
+    }
+    match random.below(5) {
+        0..=2 => nested(random, to),
         3 => Prefix { length: to.length, bytes: turned(&to.bytes, to.length - 1) },
         _ => {
             let place = random.below(to.length);
@@ -127,6 +141,7 @@ mod tests {
         let (mut overlapping, mut apart) = (0, 0);
         for _ in 0..2_000 {
             let base = fresh(&mut random);
+            assert!(nested(&mut random, &base).overlaps(&base));
             let other = related(&mut random, &base);
             assert!((1..=128).contains(&other.length));
             if base.overlaps(&other) {
@@ -139,12 +154,24 @@ mod tests {
     }
 
     #[test]
-    fn a_bit_past_the_length_makes_it_bad_and_leaves_a_record_form() {
+    fn blocks_lie_apart() {
+        let mut random = Random::new(12);
+        for _ in 0..200 {
+            let blocks: Vec<Prefix> = (0..8).map(|number| of_block(&mut random, number)).collect();
+            assert!(blocks.iter().all(Prefix::is_good));
+            for (place, one) in blocks.iter().enumerate() {
+                assert!(blocks[place + 1..].iter().all(|other| !one.overlaps(other)));
+            }
+        }
+    }
+
+    #[test]
+    fn a_bit_past_the_length_makes_it_bad_and_leaves_a_record_form_and_the_overlap() {
         let mut random = Random::new(10);
         for _ in 0..2_000 {
             let base = fresh(&mut random);
             let bad = with_bit_past_length(&mut random, &base);
-            assert!(!bad.is_good());
+            assert!(!bad.is_good() && bad.overlaps(&base));
             let needed = crate::prefix::bytes_needed(bad.length);
             assert!(bad.bytes[needed..].iter().all(|&byte| byte == 0));
         }

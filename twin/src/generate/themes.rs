@@ -4,12 +4,13 @@ use super::day::{Day, Weights};
 use super::faults::several_faults;
 use super::packets;
 use super::random::Random;
+use super::starts::starts;
 use super::{areas, prefixes, values};
 use crate::area::Area;
 use crate::call::{Call, Destination, GEO_ANYCAST, GEO_BROADCAST, GEO_UNICAST};
 use crate::prefix::{Prefix, NO_PREFIX};
 use crate::reply::Refusal;
-use crate::table::{StartSettings, LARGEST_MAXIMUM};
+use crate::table::LARGEST_MAXIMUM;
 
 /// Starts, enables, disables, DGVL areas, own MIDs, indications, requests.
 const ALL_CALLS: Weights = [1, 25, 8, 7, 4, 30, 25];
@@ -162,14 +163,15 @@ fn send_and_receive(day: &mut Day, length: usize) {
     day.request_on(index, None, &wrong);
 }
 
-/// Requests on stops of every kind and flag, to every sort of destination.
+/// Requests on stops of each kind that links can have and each flag, to every sort of
+/// destination.
 pub fn requests(random: Random) -> Day {
     let mut day = Day::new(random, 0);
-    day.good_start(9);
+    day.good_start(7);
     day.enable_each_interface();
     for _ in 0..2 {
         day.any_records(3, &[0, 0, 1, 5, 1, 0, 0]);
-        for index in 0..=9 {
+        for index in 0..=7 {
             request_each_destination(&mut day, index);
         }
         day.bad = 5;
@@ -202,48 +204,6 @@ pub fn out_of_range(random: Random) -> Day {
     day.good_start(maximum);
     day.any_records(250, &ALL_CALLS);
     day
-}
-
-/// Records before the start, refused starts, second starts.
-pub fn starts(random: Random) -> Day {
-    let mut day = Day::new(random, 20);
-    let every_call: Weights = [0, 2, 2, 2, 2, 2, 2];
-    let before = day.random.below(25);
-    day.any_records(before, &every_call);
-    for _ in 0..day.random.between(1, 20) {
-        refused_start(&mut day);
-        day.any_records(2, &every_call);
-    }
-    let maximum = values::maximum(&mut day.random, 0);
-    day.good_start(maximum);
-    day.any_records(60, &[10, 20, 6, 5, 5, 20, 20]);
-    day
-}
-
-/// A start with one value out of range, or with any number of them.
-fn refused_start(day: &mut Day) {
-    let all = 100;
-    let random = &mut day.random;
-    let mut settings = StartSettings {
-        own_mid: values::mid(random, 0),
-        maximum: values::maximum(random, 0),
-        tvl: values::interface(random, 0),
-        dgvl: values::interface(random, 0),
-    };
-    match random.below(9) {
-        0 => settings.own_mid = values::mid(random, all),
-        1 | 2 => settings.maximum = values::maximum(random, all),
-        3 => settings.tvl.kind = values::kind(random, all),
-        4 => settings.tvl.flag = values::flag(random, all),
-        5 => settings.dgvl.kind = values::kind(random, all),
-        6 => settings.dgvl.flag = values::flag(random, all),
-        _ => {
-            let maximum = values::maximum(random, 50);
-            day.start(maximum);
-            return;
-        }
-    }
-    day.add(&Call::Start(settings));
 }
 
 /// A bit of everything.

@@ -1,8 +1,8 @@
 //! Single values of calls: MIDs, kinds, flags, maxima and indices, in range and
-//! out of it, up to numbers that fit no narrow type.
+//! out of it, up to numbers that fit no narrow type; and the retired kind.
 
 use super::random::Random;
-use crate::link::InterfaceNumbers;
+use crate::link::{InterfaceNumbers, RETIRED_KIND};
 use crate::mid::LARGEST_MID;
 use crate::table::{Table, LARGEST_MAXIMUM, SMALLEST_MAXIMUM};
 
@@ -38,12 +38,22 @@ pub fn mid(random: &mut Random, bad: u64) -> u64 {
     }
 }
 
+/// A kind that links can have. A bad one is the retired kind or, more often, outside
+/// the list.
 pub fn kind(random: &mut Random, bad: u64) -> u64 {
-    let good = random.between(1, 3);
-    if random.percent(bad) {
-        return outside(random, &[0, 4, 5, 127, 128, 255, 256, u64::MAX], good);
+    if !random.percent(bad) {
+        return random.pick(&[1, 3]);
     }
-    good
+    if random.percent(40) {
+        return RETIRED_KIND;
+    }
+    kind_outside(random)
+}
+
+/// An alias of the retired kind is outside the list as well.
+pub fn kind_outside(random: &mut Random) -> u64 {
+    let listed = random.between(1, 3);
+    outside(random, &[0, 4, 5, 127, 128, 255, 256, u64::MAX], listed)
 }
 
 pub fn flag(random: &mut Random, bad: u64) -> u64 {

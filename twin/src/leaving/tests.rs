@@ -26,15 +26,20 @@ fn packet(source: Address, destination: Address) -> Vec<u8> {
     packet
 }
 
-/// All links have this kind and flag; stop 2 has area 2, stop 3 area 3.
+/// All links have this kind and flag; stop 2 has area 2, stop 3 area 3. Kind and flag
+/// come into the table by hand: `neighbour-mid` speaks of kind 2 too, though no call
+/// makes a link of it.
 fn table(kind: u64, flag: u64) -> Table {
-    let interface = InterfaceNumbers { kind, flag };
-    let settings = StartSettings { own_mid: 1, maximum: 5, tvl: interface, dgvl: interface };
+    let lan = InterfaceNumbers { kind: 1, flag: 1 };
+    let settings = StartSettings { own_mid: 1, maximum: 5, tvl: lan, dgvl: lan };
     let mut table = Table::start(&settings).1;
     for latitude in [2, 3] {
-        let settings = StopSettings { area: area(latitude), prefix: NO_PREFIX, interface };
+        let settings = StopSettings { area: area(latitude), prefix: NO_PREFIX, interface: lan };
         table.enable(&settings).unwrap();
     }
+    let interface = InterfaceNumbers { kind, flag }.check().unwrap();
+    (table.tvl, table.dgvl) = (interface, interface);
+    table.stops.values_mut().for_each(|stop| stop.interface = interface);
     table
 }
 

@@ -5,7 +5,9 @@ use crate::write::record_bytes;
 
 /// `reply-first`, "The orders"; and what the comments above say of the missing.
 type Row = (Orders, &'static [u8], &'static [(u8, u8)]);
-const ROWS: [Row; 2] = [
+const ROWS: [Row; 4] = [
+    (ORDERS_OF_START, &[1, 30], &[]),
+    (ORDERS_OF_ENABLE, &[1, 30, 2, 3, 4, 5, 6], &[(2, 4)]),
     (
         ORDERS_OF_INDICATION,
         &[1, 2, 9, 20, 21, 22, 10, 13],
@@ -32,7 +34,7 @@ fn every_order_is_there_but_for_the_impossible() {
 
 #[test]
 fn the_number_of_situations() {
-    assert_eq!(situations().len(), 23 + 32 + 2 * CAUSES.len());
+    assert_eq!(situations().len(), 1 + 20 + 23 + 32 + 2 * CAUSES.len());
 }
 
 /// Whether one of the situations is that order of the record.
@@ -47,8 +49,7 @@ fn no_other_order_is_seen() {
     for number in 0..60 {
         let day = day_file(22, number);
         for_each_call(up_to_the_limit(&day), |replay, call| {
-            let record = replay.table().and_then(|table| Refused::of_call(table, call));
-            let Some(record) = record else { return };
+            let Some(record) = Refused::of_call(replay.table(), call) else { return };
             for &later in &record.later {
                 assert!(is_wanted(&record, later), "{} over {later}", record.given);
             }
@@ -56,14 +57,20 @@ fn no_other_order_is_seen() {
     }
 }
 
-/// The names of what is seen of a request with this packet on the TVL.
-fn seen_of(packet: &[u8]) -> Vec<String> {
-    let start = [1, 1, 2, 1, 1, 1, 1];
-    let request = Call::Request(Request { index: 0, class: 0, neighbour: None, packet });
+const START: [u8; 7] = [1, 1, 2, 1, 1, 1, 1];
+
+/// The names of what is seen once in this day file.
+fn seen_in(day: &[u8]) -> Vec<String> {
     let mut counts = Counts::default();
-    counts.add(&[&start[..], &record_bytes(&request).unwrap()].concat());
+    counts.add(day);
     let seen = counts.rows().iter().filter(|(_, count)| *count == 1);
     seen.map(|(situation, _)| situation.name()).collect()
+}
+
+/// The names of what is seen of a request with this packet on the TVL.
+fn seen_of(packet: &[u8]) -> Vec<String> {
+    let request = Call::Request(Request { index: 0, class: 0, neighbour: None, packet });
+    seen_in(&[&START[..], &record_bytes(&request).unwrap()].concat())
 }
 
 /// From 2020:... to ff20:..., where nothing but the packet can be refused.
@@ -118,10 +125,13 @@ fn causes_of_22() {
 }
 
 #[test]
-fn before_the_start_nothing_is_counted() {
-    let record =
-        record_bytes(&Call::Request(Request { index: 0, class: 0, neighbour: None, packet: &[] }));
-    let mut counts = Counts::default();
-    counts.add(&record.unwrap());
-    assert!(counts.rows().iter().all(|(_, count)| *count == 0));
+fn where_16_is_listed_nothing_is_counted() {
+    // Own MID 1, maximum 66, kind 2 for the TVL: 1 over 30.
+    let start = [1, 1, 66, 2, 1, 1, 1];
+    assert_eq!(seen_in(&start), ["1 over 30"]);
+    assert!(seen_in(&[START, start].concat()).is_empty());
+    // A request with a packet of 0 bytes on the TVL.
+    let request = [7, 0, 0, 0, 0];
+    assert_eq!(seen_in(&[&START[..], &request].concat()), ["20 of 0 bytes"]);
+    assert!(seen_in(&request).is_empty());
 }

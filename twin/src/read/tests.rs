@@ -44,13 +44,14 @@ fn wide(number: u64) -> Vec<u8> {
     number_bytes(number)
 }
 
+/// Kind 2 is read as before it was retired (`kind-retired`).
 #[test]
 fn start_records() {
-    let bytes = [1, 0x81, 0x80, 0x80, 0x80, 0x80, 0x40, 65, 1, 0, 2, 1];
+    let bytes = [1, 0x81, 0x80, 0x80, 0x80, 0x80, 0x40, 65, 3, 0, 2, 1];
     let expected = StartSettings {
         own_mid: 0x0200_0000_0001,
         maximum: 65,
-        tvl: InterfaceNumbers { kind: 1, flag: 0 },
+        tvl: InterfaceNumbers { kind: 3, flag: 0 },
         dgvl: InterfaceNumbers { kind: 2, flag: 1 },
     };
     assert_eq!(read(&bytes), Call::Start(expected));

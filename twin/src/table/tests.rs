@@ -5,7 +5,10 @@ use crate::prefix::NO_PREFIX;
 use crate::reply::Refusal::*;
 
 const LAN: InterfaceNumbers = InterfaceNumbers { kind: 1, flag: 1 };
-const BAD_LINK: InterfaceNumbers = InterfaceNumbers { kind: 4, flag: 1 };
+const RETIRED: InterfaceNumbers = InterfaceNumbers { kind: 2, flag: 1 };
+const BAD_KIND: InterfaceNumbers = InterfaceNumbers { kind: 4, flag: 1 };
+const BAD_FLAG: InterfaceNumbers = InterfaceNumbers { kind: 1, flag: 2 };
+const RETIRED_WITH_BAD_FLAG: InterfaceNumbers = InterfaceNumbers { kind: 2, flag: 2 };
 
 const START: StartSettings =
     StartSettings { own_mid: 0x0200_0000_0001, maximum: 65, tvl: LAN, dgvl: LAN };
@@ -60,18 +63,58 @@ fn maximum_1_and_66_are_refused_2_and_65_are_good() {
     }
 }
 
+/// The start is refused with this number and returns the table that
+/// `start-refused` names.
+fn assert_start_refused(settings: &StartSettings, refusal: Refusal) {
+    let named = StartSettings { own_mid: 0, maximum: 2, tvl: LAN, dgvl: LAN };
+    assert_eq!(Table::start(settings), (Err(refusal), Table::start(&named).1), "{settings:?}");
+}
+
 #[test]
-fn a_refused_start_returns_the_named_table() {
-    for refused in [
+fn a_start_with_one_value_outside_its_list_is_1() {
+    for settings in [
         StartSettings { own_mid: LARGEST_MID + 1, ..START },
         StartSettings { maximum: 66, ..START },
-        StartSettings { tvl: BAD_LINK, ..START },
-        StartSettings { dgvl: InterfaceNumbers { kind: 1, flag: 2 }, ..START },
+        StartSettings { tvl: BAD_KIND, ..START },
+        StartSettings { tvl: BAD_FLAG, ..START },
+        StartSettings { dgvl: BAD_KIND, ..START },
+        StartSettings { dgvl: BAD_FLAG, ..START },
     ] {
-        let (answer, table) = Table::start(&refused);
-        let named = StartSettings { own_mid: 0, maximum: 2, tvl: LAN, dgvl: LAN };
-        assert_eq!(answer, Err(ValueOutsideItsList));
-        assert_eq!(table, Table::start(&named).1);
+        assert_start_refused(&settings, ValueOutsideItsList);
+    }
+}
+
+/// `edge-retired`, starts.
+#[test]
+fn a_start_of_kind_2_is_30_and_1_with_another_value_outside_its_list() {
+    for (tvl, dgvl) in [(RETIRED, LAN), (LAN, RETIRED), (RETIRED, RETIRED)] {
+        let retired = StartSettings { tvl, dgvl, ..START };
+        assert_start_refused(&retired, RetiredKind);
+        assert_start_refused(&StartSettings { own_mid: u64::MAX, ..retired }, ValueOutsideItsList);
+        assert_start_refused(&StartSettings { maximum: 66, ..retired }, ValueOutsideItsList);
+    }
+    for (one, other) in [(RETIRED, BAD_KIND), (RETIRED, BAD_FLAG), (RETIRED_WITH_BAD_FLAG, LAN)] {
+        for (tvl, dgvl) in [(one, other), (other, one)] {
+            assert_start_refused(&StartSettings { tvl, dgvl, ..START }, ValueOutsideItsList);
+        }
+    }
+}
+
+/// `edge-retired`, what is good.
+#[test]
+fn kinds_1_and_3_are_started_and_enabled() {
+    for kind in [1, 3] {
+        for flag in [0, 1] {
+            let interface = InterfaceNumbers { kind, flag };
+            let settings = StartSettings { tvl: interface, dgvl: interface, ..START };
+            let (answer, mut table) = Table::start(&settings);
+            assert_eq!(answer, Ok(()));
+            let settings = StopSettings { interface, ..stop(0, NO_PREFIX) };
+            assert_eq!(table.enable(&settings), Ok(2));
+            for index in 0..=2 {
+                assert_eq!(table.interface(index), interface.check());
+            }
+        }
     }
 }
 
@@ -86,8 +129,10 @@ fn refusals_of_enable_come_in_order() {
     let equal = StopSettings { area: area(0), ..overlapping };
     let bad_prefix = StopSettings { prefix: prefix(0xFF, 0, 8), ..equal };
     let bad_area = StopSettings { area: Area { a: 0, ..area(0) }, ..bad_prefix };
-    let bad_kind = StopSettings { interface: BAD_LINK, ..bad_area };
-    assert_enable_refused(&mut table, &bad_kind, ValueOutsideItsList);
+    let retired = StopSettings { interface: RETIRED, ..bad_area };
+    let bad_flag = StopSettings { interface: RETIRED_WITH_BAD_FLAG, ..retired };
+    assert_enable_refused(&mut table, &bad_flag, ValueOutsideItsList);
+    assert_enable_refused(&mut table, &retired, RetiredKind);
     assert_enable_refused(&mut table, &bad_area, AreaNotGood);
     assert_enable_refused(&mut table, &bad_prefix, PrefixNotGood);
     assert_enable_refused(&mut table, &equal, AreaEqualToAStops);
@@ -95,16 +140,19 @@ fn refusals_of_enable_come_in_order() {
     assert_enable_refused(&mut table, &stop(1, prefix(0x21, 0, 8)), NoIndexFree);
 }
 
+/// With each later refusal kind 2 is 30 (`edge-retired`, enables).
 #[test]
-fn each_refusal_of_enable_alone() {
-    let mut table = table(65);
+fn each_refusal_of_enable_alone_and_with_kind_2() {
+    let mut table = table(3);
     assert_eq!(table.enable(&stop(0, prefix(0x20, 0, 8))), Ok(2));
     let good = stop(1, prefix(0x21, 0, 8));
-    let bad_flag = InterfaceNumbers { kind: 1, flag: 2 };
+    let of_kind_2 = |settings| StopSettings { interface: RETIRED, ..settings };
     let long_prefix = Prefix { length: 129, bytes: [0; 16] };
     for (settings, refusal) in [
-        (StopSettings { interface: BAD_LINK, ..good }, ValueOutsideItsList),
-        (StopSettings { interface: bad_flag, ..good }, ValueOutsideItsList),
+        (StopSettings { interface: BAD_KIND, ..good }, ValueOutsideItsList),
+        (StopSettings { interface: BAD_FLAG, ..good }, ValueOutsideItsList),
+        (StopSettings { interface: RETIRED_WITH_BAD_FLAG, ..good }, ValueOutsideItsList),
+        (of_kind_2(good), RetiredKind),
         (StopSettings { area: Area { angle: 360, ..area(1) }, ..good }, AreaNotGood),
         (StopSettings { prefix: long_prefix, ..good }, PrefixNotGood),
         (StopSettings { prefix: prefix(0x21, 1, 8), ..good }, PrefixNotGood),
@@ -114,8 +162,11 @@ fn each_refusal_of_enable_alone() {
         (StopSettings { prefix: prefix(0x20, 1, 16), ..good }, PrefixOverlapsAStops),
     ] {
         assert_enable_refused(&mut table, &settings, refusal);
+        assert_enable_refused(&mut table, &of_kind_2(settings), RetiredKind);
     }
     assert_eq!(table.enable(&good), Ok(3));
+    assert_enable_refused(&mut table, &stop(2, NO_PREFIX), NoIndexFree);
+    assert_enable_refused(&mut table, &of_kind_2(stop(2, NO_PREFIX)), RetiredKind);
 }
 
 #[test]

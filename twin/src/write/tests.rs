@@ -7,6 +7,7 @@ use crate::table::{StartSettings, StopSettings};
 const AREA: Area = Area { shape: 1, latitude: -7, longitude: 8, a: 9, b: 10, angle: 11 };
 const WIDE: InterfaceNumbers = InterfaceNumbers { kind: u64::MAX, flag: 2 };
 const LAN: InterfaceNumbers = InterfaceNumbers { kind: 1, flag: 1 };
+const RETIRED: InterfaceNumbers = InterfaceNumbers { kind: 2, flag: 0 };
 const STOP: StopSettings = StopSettings { area: AREA, prefix: NO_PREFIX, interface: LAN };
 
 const UNICAST: Indication<'static> = Indication {
@@ -40,7 +41,7 @@ fn the_start_record_of_the_worked_example() {
 }
 
 #[test]
-fn calls_read_back_also_with_values_out_of_range() {
+fn calls_read_back_also_with_values_out_of_range_and_the_retired_kind() {
     let start = StartSettings { own_mid: u64::MAX, maximum: u64::MAX, tvl: WIDE, dgvl: LAN };
     let outside = Area {
         shape: u64::MAX,
@@ -53,7 +54,9 @@ fn calls_read_back_also_with_values_out_of_range() {
     let lowest = Area { latitude: -LATITUDE_BOUND, longitude: -LONGITUDE_BOUND, ..AREA };
     for call in [
         Call::Start(start),
+        Call::Start(StartSettings { own_mid: 1, maximum: 2, tvl: RETIRED, dgvl: RETIRED }),
         Call::Enable(STOP),
+        Call::Enable(StopSettings { interface: RETIRED, ..STOP }),
         Call::Enable(StopSettings { area: outside, interface: WIDE, ..STOP }),
         Call::Disable(0),
         Call::Disable(u64::MAX),

@@ -1,0 +1,124 @@
+//! Days whose start does not come first: records before it, starts that are refused
+//! by 1, by 30 or by 1 over 30, and second starts.
+
+use super::day::{Day, Weights};
+use super::random::Random;
+use super::values;
+use crate::call::Call;
+use crate::link::RETIRED_KIND;
+use crate::table::StartSettings;
+
+/// Records of every kind but starts: before a start each of them is 16.
+pub const ALL_BUT_STARTS: Weights = [0, 2, 2, 2, 2, 2, 2];
+
+pub fn starts(random: Random) -> Day {
+    let mut day = Day::new(random, 20);
+    let before = day.random.below(25);
+    day.any_records(before, &ALL_BUT_STARTS);
+    for _ in 0..day.random.between(1, 20) {
+        refused_start(&mut day);
+        day.any_records(2, &ALL_BUT_STARTS);
+    }
+    let maximum = values::maximum(&mut day.random, 0);
+    day.good_start(maximum);
+    day.any_records(60, &[10, 20, 6, 5, 5, 20, 20]);
+    day
+}
+
+/// A start of the retired kind, with one value outside its list, with both, or with
+/// any number of faults.
+fn refused_start(day: &mut Day) {
+    let random = &mut day.random;
+    let settings = match random.below(10) {
+        0 | 1 => retired(random),
+        2 | 3 => retired_and_one_outside(random),
+        4..=7 => {
+            let good = good(random);
+            one_outside(random, &good)
+        }
+        _ => {
+            let maximum = values::maximum(random, 50);
+            day.start(maximum);
+            return;
+        }
+    };
+    day.add(&Call::Start(settings));
+}
+
+fn good(random: &mut Random) -> StartSettings {
+    StartSettings {
+        own_mid: values::mid(random, 0),
+        maximum: values::maximum(random, 0),
+        tvl: values::interface(random, 0),
+        dgvl: values::interface(random, 0),
+    }
+}
+
+/// Good but for the kind: the TVL has the retired one, or the DGVL, or both.
+pub fn retired(random: &mut Random) -> StartSettings {
+    let mut settings = good(random);
+    let (of_tvl, of_dgvl) = random.pick(&[(true, false), (false, true), (true, true)]);
+    if of_tvl {
+        settings.tvl.kind = RETIRED_KIND;
+    }
+    if of_dgvl {
+        settings.dgvl.kind = RETIRED_KIND;
+    }
+    settings
+}
+
+/// 1 over 30.
+pub fn retired_and_one_outside(random: &mut Random) -> StartSettings {
+    loop {
+        let settings = retired(random);
+        let bad = one_outside(random, &settings);
+        // The one outside may have taken the place of the only retired kind.
+        if has_retired_kind(&bad) {
+            return bad;
+        }
+    }
+}
+
+fn has_retired_kind(settings: &StartSettings) -> bool {
+    [settings.tvl, settings.dgvl].iter().any(|link| link.kind == RETIRED_KIND)
+}
+
+/// The settings with one value outside its list.
+fn one_outside(random: &mut Random, settings: &StartSettings) -> StartSettings {
+    let all = 100;
+    let mut bad = *settings;
+    match random.below(6) {
+        0 => bad.own_mid = values::mid(random, all),
+        1 => bad.maximum = values::maximum(random, all),
+        2 => bad.tvl.kind = values::kind_outside(random),
+        3 => bad.tvl.flag = values::flag(random, all),
+        4 => bad.dgvl.kind = values::kind_outside(random),
+        _ => bad.dgvl.flag = values::flag(random, all),
+    }
+    bad
+}
+
+#[cfg(test)]
+mod tests {
+    use super::*;
+    use crate::reply::Refusal::{self, *};
+    use crate::table::Table;
+
+    fn refusal(settings: StartSettings) -> Option<Refusal> {
+        Table::start(&settings).0.err()
+    }
+
+    #[test]
+    fn each_is_refused_as_it_is_meant() {
+        let mut random = Random::new(13);
+        for _ in 0..500 {
+            let good = good(&mut random);
+            assert_eq!(refusal(good), None);
+            assert_eq!(refusal(one_outside(&mut random, &good)), Some(ValueOutsideItsList));
+            assert_eq!(refusal(retired(&mut random)), Some(RetiredKind));
+            let both = retired_and_one_outside(&mut random);
+            assert_eq!(refusal(both), Some(ValueOutsideItsList));
+            assert!(has_retired_kind(&both));
+        }
+    }
+}
