@@ -35,6 +35,7 @@ pub record Sound (most : ℕ) (memory : List Slot) (t : Table) : Type 0 where
   pub largest : t .max ≤ most
   pub tvl : interfaceOk (t .tvl) ≡ true
   pub dgvl : interfaceOk (t .dgvl) ≡ true
+  -- kind-retired, of the fixed links; of the stop links it follows from `good`
   pub tvlKept : retired (t .tvl) ≡ false
   pub dgvlKept : retired (t .dgvl) ≡ false
   pub area : goodDynamic (t .area) ≡ true

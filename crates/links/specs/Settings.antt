@@ -20,7 +20,7 @@ midOk m = ltb m (2 ^ 48)
 unfoldable pub interfaceOk : Interface → Bool
 interfaceOk f = leb 1 (f .kind) && leb (f .kind) 3 && leb (f .flag) 1
 
--- kind-retired: it stands in the list, and can no longer be started or enabled
+-- kind-retired: kind 2 stands in the list, and no link can be started or enabled with it any more
 abbrev pub retired : Interface → Bool
 retired f = eqb (f .kind) 2
 
