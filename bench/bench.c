@@ -117,12 +117,12 @@ static struct cost cost_of(const struct day *d) {
 static struct day new_day(u64 first, u64 stops) {
     struct day d = { malloc(LARGEST), 0 };
     put_start(&d, 65);
-    for (u64 s = first; s < first + stops; s++) put_enable(&d, s);
+    for (u64 s = first; s < first + stops; s++) put_enable(&d, s, ETHERNET);
     return d;
 }
 
 // What is appended to a day many times over: a record, or a few that belong together.
-enum work { AREA, OTHERWISE, PREFIX, SOURCE, TSB, REFUSED, SHORT, VERSION, LENGTH_FIELD, UNICAST, MULTICAST, GROUP_TVL, FIXED, AGAIN, OWN_MID, DGVL_AREA, IN_AND_OUT };
+enum work { AREA, OTHERWISE, PREFIX, SOURCE, TSB, REFUSED, SHORT, VERSION, LENGTH_FIELD, UNICAST, MULTICAST, GROUP_TVL, FIXED, AGAIN, OWN_MID, DGVL_AREA, RETIRED, IN_AND_OUT };
 
 static void put_work(struct day *d, enum work w, u64 stop, usize length) {
     static u8 p[1280];
@@ -142,7 +142,8 @@ static void put_work(struct day *d, enum work w, u64 stop, usize length) {
     case AGAIN: put_start(d, 65); break;
     case OWN_MID: put(d, 5), put(d, 0x020000000004); break;
     case DGVL_AREA: put(d, 4), put(d, 0); break;
-    case IN_AND_OUT: put(d, 3), put(d, stop + 2), put_enable(d, stop); break;
+    case RETIRED: put_enable(d, stop, NBMA); break;
+    case IN_AND_OUT: put(d, 3), put(d, stop + 2), put_enable(d, stop, ETHERNET); break;
     }
 }
 
@@ -173,6 +174,7 @@ static void print_table_calls(void) {
     struct day d = new_day(0, 64);
     print_row("start and 64 enables (the whole day)", cost_of(&d));
     print_row("disable and enable, the last of 64", one(IN_AND_OUT, 64, 63, 40));
+    print_row("enable refused: retired kind", one(RETIRED, 64, 0, 40));
     print_row("own MID, 64 enabled", one(OWN_MID, 64, 0, 40));
     print_row("DGVL area cleared, 64 enabled", one(DGVL_AREA, 64, 0, 40));
 }
