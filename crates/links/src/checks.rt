@@ -40,13 +40,13 @@ pub fn dynamic_area_good(a: PerhapsArea) -> bool
 }
 
 // 1 where a value is outside its list or range, then 30 where a kind is retired, or 0.
-fn refused_by_values(outside: bool, old: bool) -> u8
-    ensures { λ r. ⌜ r ≡ refusal (1 if outside then 30 if old then []) ⌝ }
+fn refused_by_values(outside: bool, retired: bool) -> u8
+    ensures { λ r. ⌜ r ≡ refusal (1 if outside then 30 if retired then []) ⌝ }
 {
     if outside {
         return replies::VALUE_OUT_OF_RANGE;
     }
-    if old {
+    if retired {
         return replies::KIND_RETIRED;
     }
     replies::DONE
