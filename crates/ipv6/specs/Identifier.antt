@@ -3,10 +3,11 @@ use Prim.Native.Nat.{ℕ, _+_, _-_, _/_, _%_}
 use mathlib.Core.Bool.{Bool, cond, _&&_}
 use mathlib.Core.List.{List, [], _∷_, _++_}
 use lib.Dec.{eqb}
-use lib.ListN.{length, getD, take, drop, replicate}
+use lib.ListN.{getD, take, drop, replicate}
 use Rattle.octets.specs.Digits.{mac, bigEndian}
 use Rattle.ipv6.specs.declared.PerhapsMid.{PerhapsMid}
 use Rattle.ipv6.specs.declared.PerhapsMid.the-variants.{Mid, Nothing}
+use Rattle.ipv6.specs.Address.{goodHop}
 
 -- the bit of value 2 is flipped
 unfoldable pub flipped : ℕ → ℕ
@@ -32,6 +33,6 @@ fromMac i = eqb (getD i 3 0) 0xff && eqb (getD i 4 0) 0xfe
 unfoldable pub midOfIdentifier : List ℕ → ℕ
 midOfIdentifier i = bigEndian (firstFlipped (take 3 i ++ drop 5 i))
 
--- the identifier of an address is its last 8 bytes; what is not 16 bytes long is no address and gives nothing
+-- the identifier of an address is its last 8 bytes; what is no good next hop gives nothing
 unfoldable pub midOf : List ℕ → PerhapsMid
-midOf a = cond (eqb (length a) 16 && fromMac (drop 8 a)) (Mid (midOfIdentifier (drop 8 a))) Nothing
+midOf a = cond (goodHop a && fromMac (drop 8 a)) (Mid (midOfIdentifier (drop 8 a))) Nothing

@@ -2,7 +2,7 @@
 ghost use mathlib.Core.Path.{_≡_};
 ghost use Rattle.octets.specs.Runs.{same};
 ghost use Rattle.replies.specs.Rules.{refusal};
-ghost use Rattle.ipv6.specs.Address.{multicast, zerosThen, loopback, unspecified};
+ghost use Rattle.ipv6.specs.Address.{multicast, zerosThen, loopback, unspecified, goodHop};
 ghost use Rattle.ipv6.specs.Packet.{source, destination, forbidden, packetRules, faultPlace};
 ghost use Rattle.ipv6.specs.Identifier.{flipped, identifier, linkLocal, midOf};
 
@@ -39,6 +39,16 @@ pub fn is_unspecified(address: &[u8]) -> bool
     ensures { λ r. ⌜ r ≡ unspecified (now (address .entry)) ⌝ }
 {
     is_zeros_then(address, 0)
+}
+
+// Whether a next hop can be a neighbour's address.
+pub fn is_good_hop(address: &[u8]) -> bool
+    ensures { λ r. ⌜ r ≡ goodHop (now (address .entry)) ⌝ }
+{
+    let unspecified = is_unspecified(address);
+    let loopback = is_loopback(address);
+    let multicast = is_multicast(address);
+    (address.len() == 16) & !unspecified & !loopback & !multicast
 }
 
 pub fn source_of(packet: &[u8]) -> &[u8]
@@ -142,7 +152,7 @@ pub fn link_local_of(mid: u64) -> [u8; 16]
     ]
 }
 
-// The MID from which an address was built, if it was.
+// The MID from which an address was built, if it was. With FF FE in its place it is neither :: nor ::1, so these are not asked.
 pub fn mid_of(address: &[u8]) -> PerhapsMid
     ensures { λ r. ⌜ r ≡ midOf (now (address .entry)) ⌝ }
 {
@@ -150,6 +160,9 @@ pub fn mid_of(address: &[u8]) -> PerhapsMid
         return PerhapsMid::Nothing;
     }
     if !((address[11] == 0xff) & (address[12] == 0xfe)) {
+        return PerhapsMid::Nothing;
+    }
+    if address[0] == 0xff {
         return PerhapsMid::Nothing;
     }
     let mac = [

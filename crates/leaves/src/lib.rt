@@ -23,12 +23,16 @@ fn neighbour_ok(neighbour: PerhapsMid) -> bool
     }
 }
 
-// The neighbour's MID: derived from the packet's destination, or the one given.
-fn neighbour_of(f: Interface, given: PerhapsMid, packet: &[u8]) -> PerhapsMid
-    ensures { λ r. ⌜ r ≡ neighbourOf f given (now (packet .entry)) ⌝ }
+// The neighbour's MID: derived from the next hop, or the one given. A next hop that is not good has none to derive, so it is asked
+// only where the MID is given.
+fn neighbour_of(f: Interface, given: PerhapsMid, hop: &[u8]) -> PerhapsMid
+    ensures { λ r. ⌜ r ≡ neighbourOf f given (now (hop .entry)) ⌝ }
 {
     if (f.kind == links::POINT_TO_POINT) | (f.flag == 1) {
-        return ipv6::mid_of(ipv6::destination_of(packet));
+        return ipv6::mid_of(hop);
+    }
+    if !ipv6::is_good_hop(hop) {
+        return PerhapsMid::Nothing;
     }
     given
 }
@@ -53,7 +57,7 @@ fn within_area(a: PerhapsArea) -> Destination
 
 // The number by which its values refuse a request: 1, or 0.
 pub fn request_values_refusal(h: RequestHead) -> u8
-    ensures { λ r. ⌜ r ≡ refusal (requestValues (request h [])) ⌝ }
+    ensures { λ r. ⌜ r ≡ refusal (requestValues (request h [] [])) ⌝ }
 {
     let neighbour = h.neighbour;
     if !neighbour_ok(neighbour) {
@@ -90,8 +94,8 @@ fn sent(transport: u8, destination: Destination, class: u8, length: usize) -> Se
 }
 
 // A request whose values are good, on the link that its index names.
-pub fn send_on(link: Named, h: RequestHead, packet: &[u8]) -> Sending
-    ensures { λ r. ⌜ r ≡ sendOn link (request h (now (packet .entry))) ⌝ }
+pub fn send_on(link: Named, h: RequestHead, hop: &[u8], packet: &[u8]) -> Sending
+    ensures { λ r. ⌜ r ≡ sendOn link (request h (now (hop .entry)) (now (packet .entry))) ⌝ }
 {
     if !link.enabled {
         return not_sent(replies::NO_SUCH_LINK, packet);
@@ -101,7 +105,8 @@ pub fn send_on(link: Named, h: RequestHead, packet: &[u8]) -> Sending
         return not_sent(bad, packet);
     }
     let index = h.index;
-    if ipv6::is_multicast(ipv6::destination_of(packet)) {
+    let far_end = ipv6::destination_of(packet);
+    if ipv6::is_multicast(far_end) {
         let area = link.area;
         if (index.0 == LinkIndex::DGVL.0) & is_unset(area) {
             return not_sent(replies::AREA_MISSING, packet);
@@ -114,7 +119,7 @@ pub fn send_on(link: Named, h: RequestHead, packet: &[u8]) -> Sending
     }
     let f = link.interface;
     let neighbour = h.neighbour;
-    match neighbour_of(f, neighbour, packet) {
+    match neighbour_of(f, neighbour, hop) {
         PerhapsMid::Mid(m) => sent(
             traffic::GEO_UNICAST,
             Destination::Mid(m),
@@ -126,14 +131,14 @@ pub fn send_on(link: Named, h: RequestHead, packet: &[u8]) -> Sending
 }
 
 // A request on the link that its index names: its values are asked first.
-pub fn request_on(link: Named, h: RequestHead, packet: &[u8]) -> Sending
-    ensures { λ r. ⌜ r ≡ sendNamed link (request h (now (packet .entry))) ⌝ }
+pub fn request_on(link: Named, h: RequestHead, hop: &[u8], packet: &[u8]) -> Sending
+    ensures { λ r. ⌜ r ≡ sendNamed link (request h (now (hop .entry)) (now (packet .entry))) ⌝ }
 {
     let number = request_values_refusal(h);
     if number != replies::DONE {
         return not_sent(number, packet);
     }
-    send_on(link, h, packet)
+    send_on(link, h, hop, packet)
 }
 
 // The interface address of a link that is enabled or not, in a box with this own MID.

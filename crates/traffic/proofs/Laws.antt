@@ -5,4 +5,5 @@ pub mod Choice
 pub mod Receive
 pub mod Send
 pub mod Demands
+pub mod NextHop
 pub mod SwitchedOn

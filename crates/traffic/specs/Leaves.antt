@@ -7,7 +7,7 @@ use lib.ListN.{length, replicate}
 use Rattle.replies.specs.Rules.{Rule, _if_, _then_, refusal}
 use Rattle.ipv6.specs.declared.PerhapsMid.{PerhapsMid}
 use Rattle.ipv6.specs.declared.PerhapsMid.the-variants.{Mid as Known, Nothing as Unknown}
-use Rattle.ipv6.specs.Address.{multicast}
+use Rattle.ipv6.specs.Address.{multicast, goodHop}
 use Rattle.ipv6.specs.Packet.{destination, packetRules, faultPlace}
 use Rattle.ipv6.specs.Identifier.{midOf, linkLocal}
 use Rattle.links.specs.declared.PerhapsArea.{PerhapsArea}
@@ -29,16 +29,18 @@ pub record Request : Type 0 where
   pub index : LinkIndex
   pub class : ℕ
   pub neighbour : PerhapsMid
+  pub nextHop : List ℕ
   pub packet : List ℕ
 
-abbrev pub request : RequestHead → List ℕ → Request
-request h packet = record { index = h .index; class = h .class; neighbour = h .neighbour; packet = packet }
+abbrev pub request : RequestHead → List ℕ → List ℕ → Request
+request h nextHop packet = record { index = h .index; class = h .class; neighbour = h .neighbour; nextHop = nextHop; packet = packet }
 
 -- What is sent on a link, whatever the layout of the table that it was found in
 
--- neighbour-mid: on kind 3, or with flag 1, the MID comes from the packet's destination; with flag 0 on kinds 1 and 2 it is the MID given
+-- neighbour-mid: where the next hop is good, the MID comes from it on kind 3, or with flag 1; with flag 0 on kinds 1 and 2 it is the
+-- MID given
 unfoldable pub neighbourOf : Interface → PerhapsMid → List ℕ → PerhapsMid
-neighbourOf f given packet = cond (eqb (f .kind) 3 || eqb (f .flag) 1) (midOf (destination packet)) given
+neighbourOf f given hop = cond (goodHop hop) (cond (eqb (f .kind) 3 || eqb (f .flag) 1) (midOf hop) given) Unknown
 
 -- multicast-out: TSB without destination on the TVL, GeoBroadcast to the link's area on the others
 pub record Down : Type 0 where
@@ -59,7 +61,7 @@ down l q =
     (cond (eqb (q .index .0) (tvlIndex .0))
     (record { transport = 4; destination = Nothing })
     (record { transport = 3; destination = within (l .area) }))
-    (record { transport = 1; destination = toNeighbour (neighbourOf (l .interface) (q .neighbour) (q .packet)) })
+    (record { transport = 1; destination = toNeighbour (neighbourOf (l .interface) (q .neighbour) (q .nextHop)) })
 
 -- Refusals
 
@@ -79,7 +81,7 @@ isUnknown Unknown = true
 unfoldable pub resolveRules : Named → Request → List Rule
 resolveRules l q =
     11 if (multicast (destination (q .packet)) && eqb (q .index .0) (dgvlIndex .0) && isUnset (l .area))
-    then 12 if (not (multicast (destination (q .packet))) && isUnknown (neighbourOf (l .interface) (q .neighbour) (q .packet)))
+    then 12 if (not (multicast (destination (q .packet))) && isUnknown (neighbourOf (l .interface) (q .neighbour) (q .nextHop)))
     then []
 
 -- its values

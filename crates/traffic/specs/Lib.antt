@@ -1,4 +1,5 @@
 pub mod Arrives
 pub mod Leaves
+pub mod NextHop
 pub mod Demand3
 pub mod Demands

@@ -46,10 +46,10 @@ pub fn indication(t: Table, h: IndicationHead, packet: &[u8], out: &mut [u8]) ->
     arrives::deliver(choice::chosen_for(t, h, packet), h, packet, out)
 }
 
-pub fn request(t: Table, h: RequestHead, packet: &[u8]) -> Sending
-    ensures { λ r. ⌜ r ≡ send t (request h (now (packet .entry))) ⌝ }
+pub fn request(t: Table, h: RequestHead, hop: &[u8], packet: &[u8]) -> Sending
+    ensures { λ r. ⌜ r ≡ send t (request h (now (hop .entry)) (now (packet .entry))) ⌝ }
 {
-    leaves::request_on(value_slots::index::link_at(t, h.index), h, packet)
+    leaves::request_on(value_slots::index::link_at(t, h.index), h, hop, packet)
 }
 
 pub fn interface_address(t: Table, index: LinkIndex) -> InterfaceAddress

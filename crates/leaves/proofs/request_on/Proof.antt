@@ -8,16 +8,16 @@ use Rattle.leaves.proofs.request_on.Tie as tie
 returns : tie.Need-returns
 unfolding requestValues
 returns c =
-    let args = c .before .before .before .before .args in
+    let args = c .before .before .before .before .before .args in
     let bad = c .before .before .request-values-refusal in
-    c .not-sent .ensures ∙ sym (named-refused (args .link) (request (args .h) (args .packet .now)) (bad .result) (bad .ensures) (c .before .if1 .taken))
+    c .not-sent .ensures ∙ sym (named-refused (args .link) (request (args .h) (args .hop .now) (args .packet .now)) (bad .result) (bad .ensures) (c .before .if1 .taken))
 
 returns-2 : tie.Need-returns-2
 unfolding requestValues
 returns-2 c =
-    let args = c .before .before .before .before .args in
+    let args = c .before .before .before .before .before .args in
     let bad = c .before .before .request-values-refusal in
-    c .send-on .ensures ∙ sym (named-on (args .link) (request (args .h) (args .packet .now)) (sym (bad .ensures) ∙ c .before .if1 .left))
+    c .send-on .ensures ∙ sym (named-on (args .link) (request (args .h) (args .hop .now) (args .packet .now)) (sym (bad .ensures) ∙ c .before .if1 .left))
 
 pub request-on-spec : {M : Type 1} → statement M
 request-on-spec =

@@ -14,16 +14,16 @@ use Rattle.leaves.proofs.send_on.Tie as tie
 -- the link is enabled and the packet good: multicast and neighbour decide
 module _ (c : tie.Else2) where
   abbrev link : Named
-  link = c .before .before .before .before .before .args .link
+  link = c .before .before .before .before .before .before .args .link
 
   abbrev asked : Request
-  asked = request (c .before .before .before .before .before .args .h) (c .before .before .before .before .before .args .packet .now)
+  asked = let args = c .before .before .before .before .before .before .args in request (args .h) (args .hop .now) (args .packet .now)
 
   passed : sendOn link asked ≡ sending (refusal (resolveRules link asked)) link asked
   passed =
       on-good-packet link asked (not-false _ (c .before .before .if1 .left)) (sym (c .before .packet-refusal .ensures) ∙ c .if2 .left)
 
-multi : (c : tie.After-is-multicast) → multicast (destination (c .before .before .before .before .before .before .before .before .args .packet .now)) ≡ c .is-multicast .result
+multi : (c : tie.After-is-multicast) → multicast (destination (c .before .before .before .before .before .before .before .before .before .args .packet .now)) ≡ c .is-multicast .result
 multi c = sym (c .is-multicast .ensures ∙ ap multicast (c .before .destination-of .ensures))
 
 not-sent-requires : tie.Need-not-sent-requires
@@ -31,8 +31,8 @@ not-sent-requires c κs = search needs
 
 returns : tie.Need-returns
 returns c =
-    let args = c .before .before .before .before .args in
-    c .not-sent .ensures ∙ sym (on-disabled (args .link) (request (args .h) (args .packet .now)) (not-true _ (c .before .if1 .taken)))
+    let args = c .before .before .before .before .before .args in
+    c .not-sent .ensures ∙ sym (on-disabled (args .link) (request (args .h) (args .hop .now) (args .packet .now)) (not-true _ (c .before .if1 .taken)))
 
 packet-refusal-requires : tie.Need-packet-refusal-requires
 packet-refusal-requires c κs = search needs
@@ -42,10 +42,10 @@ not-sent-requires-2 c κs = search needs
 
 returns-2 : tie.Need-returns-2
 returns-2 c =
-    let args = c .before .before .before .before .before .before .args in
+    let args = c .before .before .before .before .before .before .before .args in
     let bad = c .before .before .packet-refusal in
     c .not-sent2 .ensures
-    ∙ sym (on-bad-packet (args .link) (request (args .h) (args .packet .now)) (bad .result) (not-false _ (c .before .before .before .if1 .left)) (bad .ensures) (c .before .if2 .taken))
+    ∙ sym (on-bad-packet (args .link) (request (args .h) (args .hop .now) (args .packet .now)) (bad .result) (not-false _ (c .before .before .before .if1 .left)) (bad .ensures) (c .before .if2 .taken))
 
 destination-of-requires : tie.Need-destination-of-requires
 destination-of-requires c κs = search needs

@@ -202,7 +202,7 @@ module _ (t : Table) where
             link = ap (λ (r : Received). r .reply .link) bad ∙ ap (λ (r : Choice). r .link) foretold;
           }
 
-  sends : (q : Request) → send t q .number ≡ 0 → Sends t q
+  pub sends : (q : Request) → send t q .number ≡ 0 → Sends t q
   unfolding send requestRules linkRules
   sends q e =
       let l = named t (q .index) in

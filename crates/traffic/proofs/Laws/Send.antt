@@ -3,16 +3,20 @@ use Prim.Native.Nat.{ℕ, zero, suc, _<_}
 use native.Mathlib.Omega.{arith}
 use mathlib.Core.Path.{_≡_, refl, sym, _∙_, ap}
 use mathlib.Core.Logic.{_≢_}
-use mathlib.Core.Bool.{Bool, true, false, cond, not, _&&_}
-use mathlib.Core.List.{[], _++_}
+use mathlib.Core.Bool.{Bool, true, false, cond, not, _&&_, _||_}
+use mathlib.Core.List.{List, [], _++_}
 use lib.Dec.{eqb, lit<}
 use lib.ListN.{length}
 use Rattle.replies.specs.Rules.{_if_, _then_, refusal}
 use Rattle.replies.proofs.Laws.Refusals.{Numbered, numbered-append, refusal-next, by-first, refusal-past}
+use Rattle.ipv6.specs.declared.PerhapsMid.{PerhapsMid}
 use Rattle.ipv6.specs.declared.PerhapsMid.the-variants.{Mid as Known, Nothing as Unknown}
-use Rattle.ipv6.specs.Address.{multicast}
+use Rattle.ipv6.specs.Address.{multicast, goodHop}
 use Rattle.ipv6.specs.Packet.{destination, packetRules}
+use Rattle.ipv6.specs.Identifier.{midOf}
+use Rattle.ipv6.proofs.Laws.Identifier.{bad-hop-without-mid}
 use Rattle.ipv6.proofs.Laws.Packet.{packet-numbered}
+use Rattle.links.specs.declared.Interface.{Interface}
 use Rattle.links.specs.declared.Named.{Named}
 use Rattle.links.specs.declared.Table.{Table}
 use Rattle.links.specs.Index.{named}
@@ -79,18 +83,36 @@ module _ (l : Named) (q : Request) where
     many-down = rw many
 
   module _ (one : multicast (destination (q .packet)) ≡ false) where
-    pub one-unknown : neighbourOf (l .interface) (q .neighbour) (q .packet) ≡ Unknown → sending (refusal (resolveRules l q)) l q ≡ notSent 12 (q .packet)
+    pub one-unknown : neighbourOf (l .interface) (q .neighbour) (q .nextHop) ≡ Unknown → sending (refusal (resolveRules l q)) l q ≡ notSent 12 (q .packet)
     unfolding resolveRules
     one-unknown e = rw (one, e)
 
-    one-down : down l q ≡ record { transport = 1; destination = toNeighbour (neighbourOf (l .interface) (q .neighbour) (q .packet)) }
+    pub one-down : down l q ≡ record { transport = 1; destination = toNeighbour (neighbourOf (l .interface) (q .neighbour) (q .nextHop)) }
     unfolding down
     one-down = rw one
 
-    pub one-sent : (m : ℕ) → neighbourOf (l .interface) (q .neighbour) (q .packet) ≡ Known m
+    pub one-sent : (m : ℕ) → neighbourOf (l .interface) (q .neighbour) (q .nextHop) ≡ Known m
         → sending (refusal (resolveRules l q)) l q ≡ record { number = 0; place = 0; transport = 1; destination = Mid m; class = q .class; length = length (q .packet) }
     unfolding resolveRules
     one-sent m e = rw (one, e) (rw (one-down, e))
+
+-- the neighbour: derived, or given where the next hop is good
+module _ (f : Interface) (given : PerhapsMid) (hop : List ℕ) where
+  pub neighbour-derived : (eqb (f .kind) 3 || eqb (f .flag) 1) ≡ true → neighbourOf f given hop ≡ midOf hop
+  unfolding neighbourOf
+  neighbour-derived e = rw e (go (goodHop hop) refl)
+    where
+      go : (b : Bool) → goodHop hop ≡ b → cond b (midOf hop) Unknown ≡ midOf hop
+      go true g = refl
+      go false g = sym (bad-hop-without-mid hop g)
+
+  pub neighbour-given : (eqb (f .kind) 3 || eqb (f .flag) 1) ≡ false → goodHop hop ≡ true → neighbourOf f given hop ≡ given
+  unfolding neighbourOf
+  neighbour-given e g = rw (e, g)
+
+  pub neighbour-nobody : goodHop hop ≡ false → neighbourOf f given hop ≡ Unknown
+  unfolding neighbourOf
+  neighbour-nobody g = rw g
 
 -- its values are asked first, and then what the link decides
 module _ (l : Named) (q : Request) where

@@ -8,8 +8,8 @@ use Rattle.value_traffic.proofs.request.Tie as tie
 
 returns : tie.Need-returns
 returns c =
-    let args = c .before .before .before .args in
-    let q = request (args .h) (args .packet .now) in
+    let args = c .before .before .before .before .args in
+    let q = request (args .h) (args .hop .now) (args .packet .now) in
     c .request-on .ensures ∙ ap (λ (l : Named). sendNamed l q) (c .before .link-at .ensures) ∙ sym (sent-named (args .t) q)
 
 pub request-spec : {M : Type 1} → statement M
