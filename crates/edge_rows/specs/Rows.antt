@@ -19,6 +19,7 @@ use Rattle.links.specs.Calls.{TableCall, enable, disable, reply, startByValue}
 use Rattle.ipv6.specs.declared.PerhapsMid.{PerhapsMid}
 use Rattle.ipv6.specs.declared.PerhapsMid.the-variants.{Mid, Nothing as NoMid}
 use Rattle.ipv6.specs.Identifier.{linkLocal, midOf}
+use Rattle.ipv6.specs.Packet.{destination}
 use Rattle.traffic.specs.declared.Destination.{Destination}
 use Rattle.traffic.specs.declared.Destination.the-variants.{Mid as ToMid, Within, Nothing as NoDestination}
 use Rattle.traffic.specs.declared.Reception.{Reception}
@@ -52,14 +53,37 @@ abbrev pub midOrZero : PerhapsMid → ℕ
 midOrZero (Mid m) = m
 midOrZero NoMid = 0
 
--- a packet of n bytes from fe80::1 to ff02::1: of its header as much as there is room for
-abbrev pub packet : ℕ → List ℕ
-packet n =
+-- addresses: ::, ::1, ff02::1
+abbrev pub unspecified : List ℕ
+unspecified = replicate 16 0
+
+abbrev pub loopback : List ℕ
+loopback = replicate 15 0 ++ 1 ∷ []
+
+abbrev pub allNodes : List ℕ
+allNodes = 0xff ∷ 2 ∷ replicate 13 0 ++ 1 ∷ []
+
+-- 02:00:00:00:00:01's, fe80::ff:fe00:1; a multicast one that ends like it, ff02::ff:fe00:1; and 2001:db8::n, without FF FE
+abbrev pub mast : List ℕ
+mast = 0xfe ∷ 0x80 ∷ replicate 9 0 ++ 0xff ∷ 0xfe ∷ 0 ∷ 0 ∷ 1 ∷ []
+
+abbrev pub manyLikeMast : List ℕ
+manyLikeMast = 0xff ∷ 2 ∷ drop 2 mast
+
+abbrev pub inInternet : ℕ → List ℕ
+inInternet n = 0x20 ∷ 1 ∷ 0x0d ∷ 0xb8 ∷ replicate 11 0 ++ n ∷ []
+
+-- a packet of n bytes from fe80::1 to an address: of its header as much as there is room for; to ff02::1
+abbrev pub packetTo : List ℕ → ℕ → List ℕ
+packetTo address n =
     take n
     (0x60 ∷ 0 ∷ 0 ∷ 0 ∷ digits 256 2 (n - 40)
     ++ 59 ∷ 64 ∷ 0xfe ∷ 0x80 ∷ replicate 13 0
-    ++ 1 ∷ 0xff ∷ 2 ∷ replicate 13 0
-    ++ 1 ∷ replicate (n - 40) 0)
+    ++ 1 ∷ address
+    ++ replicate (n - 40) 0)
+
+abbrev pub packet : ℕ → List ℕ
+packet n = packetTo allNodes n
 
 -- another version; another length field, which fits no packet here; the source ::1
 abbrev pub versionFive : List ℕ → List ℕ
@@ -69,7 +93,7 @@ abbrev pub wrongLength : List ℕ → List ℕ
 wrongLength p = take 4 p ++ 0xff ∷ 0xff ∷ drop 6 p
 
 abbrev pub fromLoopback : List ℕ → List ℕ
-fromLoopback p = take 8 p ++ replicate 15 0 ++ 1 ∷ drop 24 p
+fromLoopback p = take 8 p ++ loopback ++ drop 24 p
 
 -- a start with a maximum, and fixed links of these kinds and flag 1; of kind 1
 abbrev pub startOf : ℕ → ℕ → ℕ → Reply
@@ -83,16 +107,17 @@ abbrev pub arrivingOn : Table → ℕ → ℕ → Destination → ℕ → List �
 arrivingOn t source transport to room p =
     receive t (record { transport = transport; source = source; class = 0; destination = to; packet = p }) (replicate room 0) .reply
 
--- one that leaves: the index of its link, and perhaps a neighbour's MID
-abbrev pub leavingOn : Table → ℕ → PerhapsMid → List ℕ → Sending
-leavingOn t index neighbour p = send t (record { index = record { 0 = index }; class = 0; neighbour = neighbour; packet = p })
+-- one that leaves: the index of its link, perhaps a neighbour's MID, and its next hop
+abbrev pub leavingOn : Table → ℕ → PerhapsMid → List ℕ → List ℕ → Sending
+leavingOn t index neighbour hop p =
+    send t (record { index = record { 0 = index }; class = 0; neighbour = neighbour; nextHop = hop; packet = p })
 
--- on a table without a stop
+-- on a table without a stop; the far end is the next hop, because it decides none of the rows that ask this
 abbrev pub arriving : ℕ → ℕ → Destination → ℕ → List ℕ → Reception
 arriving source transport to room p = arrivingOn (startWith 65 .table) source transport to room p
 
 abbrev pub leaving : ℕ → PerhapsMid → List ℕ → Sending
-leaving index neighbour p = leavingOn (startWith 65 .table) index neighbour p
+leaving index neighbour p = leavingOn (startWith 65 .table) index neighbour (destination p) p
 
 -- number and place of a packet: by TSB, where room is lent for every packet, and on the TVL
 abbrev pub answered : List ℕ → List ℕ
@@ -147,9 +172,12 @@ stop n = stopAt (circle n 0 0)
 abbrev pub first : Settings → ℕ
 first s = reply (startWith 65 .table) (enable s) .number
 
--- a table with this stop alone, which is link 2
+-- a table with this stop alone, which is link 2; of kind 1 and flag 1
+abbrev pub onlyStop : Settings → Table
+onlyStop s = reply (startWith 65 .table) (enable s) .table
+
 abbrev pub only : Area → Table
-only x = reply (startWith 65 .table) (enable (stopAt x)) .table
+only x = onlyStop (stopAt x)
 
 -- a second enable beside it, by number and link, and the link of a broadcast
 abbrev pub beside : Area → Area → List ℕ
@@ -174,6 +202,26 @@ isVery (ToMid m) x = false
 isVery (Within y) x = sameNumbers y x
 isVery NoDestination x = false
 
+abbrev pub toMidOrZero : Destination → ℕ
+toMidOrZero (ToMid m) = m
+toMidOrZero (Within y) = 0
+toMidOrZero NoDestination = 0
+
+-- of what leaves, its number, its transport, and the MID that it goes to
+abbrev pub sent : Sending → List ℕ
+sent s = s .number ∷ s .transport ∷ toMidOrZero (s .destination) ∷ []
+
+-- a packet to a film server, 2001:db8::5, on the only stop: the link's kind and flag, perhaps a neighbour's MID, and the next hop
+abbrev pub toServer : ℕ → ℕ → PerhapsMid → List ℕ → List ℕ
+toServer kind flag neighbour hop = sent (leavingOn (onlyStop (stopOf (circle 5 0 0) kind flag)) 2 neighbour hop (packetTo (inInternet 5) 40))
+
+-- which is not resolvable, or goes to a MID by GeoUnicast
+abbrev pub unresolved : List ℕ
+unresolved = 12 ∷ 0 ∷ 0 ∷ []
+
+abbrev pub unicastTo : ℕ → List ℕ
+unicastTo m = 0 ∷ 1 ∷ m ∷ []
+
 unfoldable pub rows : List Row
 rows =
     -- edge-maximum: 1 refused, 2 good, 65 good, 66 refused
@@ -193,7 +241,7 @@ rows =
     ∷ (given (startWith 65 .table) (enable (stop 1) ∷ enable (stop 2) ∷ enable (stop 3) ∷ disable (record { 0 = 3 }) ∷ enable (stop 4) ∷ [])
     are (2 ∷ 3 ∷ 4 ∷ 0 ∷ 3 ∷ []))
     -- edge-address: own MID 02:00:00:00:00:01 gives fe80::ff:fe00:1, and back
-    ∷ (linkLocal 0x020000000001 are (0xfe ∷ 0x80 ∷ replicate 9 0 ++ 0xff ∷ 0xfe ∷ 0 ∷ 0 ∷ 1 ∷ []))
+    ∷ (linkLocal 0x020000000001 are mast)
     ∷ (midOrZero (midOf (linkLocal 0x020000000001)) is 0x020000000001)
     -- edge-area: angle 359 good, 360 not; ellipse with b = 0 not, circle with b = 0 good
     ∷ (says (goodArea (rectangle 1 1 359)) is 1)
@@ -222,7 +270,7 @@ rows =
     ∷ (rectangle 3 5 10 differs-from rectangle 3 5 100)
     ∷ (centred (pos 900_000_000) (pos 0) (circle 5 0 0) differs-from centred (pos 900_000_000) (pos 1) (circle 5 0 0))
     -- edge-given: a request goes to the area as it was given
-    ∷ (says (isVery (leavingOn (only (centred (pos 0) east (ellipse 5 5 77))) 2 NoMid (packet 40) .destination) (centred (pos 0) east (ellipse 5 5 77))) is 1)
+    ∷ (says (isVery (leavingOn (only (centred (pos 0) east (ellipse 5 5 77))) 2 NoMid allNodes (packet 40) .destination) (centred (pos 0) east (ellipse 5 5 77))) is 1)
     -- edge-packet: 39, 40, 1,280 and 1,281 bytes: 20 at 39, good, good, 9
     ∷ (answered (packet 39) are 20 at 39)
     ∷ (answered (packet 40) are 0 at 0)
@@ -244,6 +292,29 @@ rows =
     ∷ (leaving 5 (Mid (2 ^ 48)) (packet 40) .number is 1)
     ∷ (leaving 5 NoMid (packet 39) .number is 7)
     ∷ (leaving 1 NoMid (packet 39) .number is 20)
+    -- edge-next-hop: with flag 1 the MID is the next hop's
+    ∷ (toServer 1 1 NoMid unspecified are unresolved)
+    ∷ (toServer 1 1 NoMid loopback are unresolved)
+    ∷ (toServer 1 1 NoMid allNodes are unresolved)
+    ∷ (toServer 1 1 NoMid manyLikeMast are unresolved)
+    ∷ (toServer 1 1 NoMid (take 15 mast) are unresolved)
+    ∷ (toServer 1 1 NoMid (inInternet 1) are unresolved)
+    ∷ (toServer 1 1 (Mid 0x020000000002) (inInternet 1) are unresolved)
+    ∷ (toServer 1 1 NoMid mast are unicastTo 0x020000000001)
+    -- with flag 0 it is the one given, which does not help a next hop that is not good
+    ∷ (toServer 1 0 (Mid 0x020000000002) (inInternet 1) are unicastTo 0x020000000002)
+    ∷ (toServer 1 0 (Mid 0x020000000002) unspecified are unresolved)
+    ∷ (toServer 1 0 (Mid 0x020000000002) loopback are unresolved)
+    ∷ (toServer 1 0 (Mid 0x020000000002) allNodes are unresolved)
+    ∷ (toServer 1 0 (Mid 0x020000000002) (take 15 mast) are unresolved)
+    ∷ (toServer 1 0 NoMid (inInternet 1) are unresolved)
+    ∷ (toServer 1 0 NoMid mast are unresolved)
+    -- on kind 3 it is the next hop's, though one is given
+    ∷ (toServer 3 0 (Mid 0x020000000002) mast are unicastTo 0x020000000001)
+    -- a multicast packet goes by no next hop; a packet that is bad is refused before 12
+    ∷ (sent (leavingOn (only (circle 5 0 0)) 2 NoMid unspecified (packet 40)) are (0 ∷ 3 ∷ 0 ∷ []))
+    ∷ (sent (leavingOn (only (circle 5 0 0)) 0 NoMid unspecified (packet 40)) are (0 ∷ 4 ∷ 0 ∷ []))
+    ∷ (leavingOn (only (circle 5 0 0)) 2 NoMid unspecified (packetTo (inInternet 5) 39) .number is 20)
     ∷ []
 
 unfoldable pub Edges : Type 0

@@ -1,5 +1,7 @@
 // RULES, Cases at the edges: those not marked *, each printed with what is expected and what came. The twin prints the
 // same lines from its own code.
+mod next_hops;
+
 use area::Area;
 use ipv6::PerhapsMid;
 use libc::STDOUT_FILENO;
@@ -35,18 +37,18 @@ fn plain() -> Interface {
     }
 }
 
-fn settings(area: Area, len: u8, first: u8) -> Settings {
+fn settings(area: Area, interface: Interface, len: u8, first: u8) -> Settings {
     let mut bytes = [0u8; 16];
     bytes[0] = first;
     Settings {
         area: area,
-        interface: plain(),
+        interface: interface,
         prefix: prefix::of_bytes(len, &bytes),
     }
 }
 
-// Maximum 2, and its only stop link enabled.
-fn with_one_stop() -> Table {
+// Maximum 2, and its only stop link enabled, with this interface.
+fn with_stop(interface: Interface) -> Table {
     let start = value_table::start(StartValues {
         own: 1,
         max: 2,
@@ -54,9 +56,13 @@ fn with_one_stop() -> Table {
         dgvl: plain(),
     });
     let fresh = start.table;
-    let stop = settings(rectangle(0, 90), 0, 0);
+    let stop = settings(rectangle(0, 90), interface, 0, 0);
     let reply = value_table::enable(fresh, stop);
     reply.table
+}
+
+fn with_one_stop() -> Table {
+    with_stop(plain())
 }
 
 // 40 bytes from fe80::1 to ff02::1.
@@ -73,7 +79,7 @@ fn packet() -> [u8; 40] {
 }
 
 fn second_stop() {
-    let second = settings(rectangle(1_000, 90), 8, 0x20);
+    let second = settings(rectangle(1_000, 90), plain(), 8, 0x20);
     let reply = value_table::enable(with_one_stop(), second);
     print(b"second stop link at maximum 2: expected 6 got ");
     io::print_decimal(STDOUT_FILENO, reply.number as u64);
@@ -141,7 +147,7 @@ fn print_place(expected: &[u8], number: u8, place: usize) {
     print(b"\n");
 }
 
-// A bad packet, as an indication by TSB and as a request on the TVL.
+// A bad packet, as an indication by TSB and as a request on the TVL, with its far end as next hop.
 fn bad_packet(fault: &[u8], expected: &[u8], packet: &[u8]) {
     let mut buffer = [0u8; 1294];
     let h = from_two(traffic::TSB, Destination::Nothing);
@@ -154,7 +160,8 @@ fn bad_packet(fault: &[u8], expected: &[u8], packet: &[u8]) {
         class: 0,
         neighbour: PerhapsMid::Nothing,
     };
-    let sent = value_traffic::request(with_one_stop(), q, packet);
+    let hop = octets::part(packet, 24, 16);
+    let sent = value_traffic::request(with_one_stop(), q, hop, packet);
     print(b"request ");
     print(fault);
     print_place(expected, sent.number, sent.place);
@@ -184,4 +191,5 @@ fn main() {
     broadcast_beside_the_stop();
     buffer_of_packet_and_13();
     parts_that_are_bad();
+    next_hops::show_all();
 }

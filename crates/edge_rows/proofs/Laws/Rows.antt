@@ -10,12 +10,12 @@ use Rattle.area.specs.Area.{goodArea, normalBy, normal, sameNumbers, hasNormal,
 use Rattle.prefix.specs.Prefix.{agrees, holdsPrefix, overlap, goodPrefix}
 use Rattle.links.specs.Settings.{interfaceOk, settingsValues, groundRules, settingsRules, sameGround, overlaps}
 use Rattle.links.specs.Slots.{any, place}
-use Rattle.links.specs.Index.{areaAt, enabledAt}
+use Rattle.links.specs.Index.{areaAt, interfaceAt, enabledAt}
 use Rattle.links.specs.Calls.{slotRules, rules, linkAfter, tableAfter, reply, startValues, cleared, fresh, start}
-use Rattle.ipv6.specs.Address.{multicast}
+use Rattle.ipv6.specs.Address.{multicast, goodHop}
 use Rattle.ipv6.specs.Packet.{forbidden, packetRules, faultPlace}
 use Rattle.traffic.specs.Arrives.{indicationValues, contentRules, choiceRules, roomRules, indicationRules, stopBy, byArea, byDestination, bySource, choose, receive}
-use Rattle.traffic.specs.Leaves.{requestValues, linkRules, resolveRules, requestRules, down, send}
+use Rattle.traffic.specs.Leaves.{neighbourOf, requestValues, linkRules, resolveRules, requestRules, down, send}
 use Rattle.ipv6.specs.Identifier.{flipped, identifier, linkLocal, fromMac, midOfIdentifier, midOf}
 use Rattle.edge_rows.specs.Rows.{Row, Hold, rows, Edges}
 
@@ -34,5 +34,5 @@ by-test (r ∷ rs) h = step (same (r .got) (r .want)) refl (by-test rs) h
     step false e f h = absurd h
 
 pub edges : Edges
-unfolding Edges rows test same allZero digits number bits goodArea normalBy normal sameNumbers hasNormal sameArea agrees holdsPrefix overlap goodPrefix interfaceOk settingsValues groundRules settingsRules sameGround overlaps any place areaAt enabledAt slotRules rules linkAfter tableAfter reply startValues cleared fresh start multicast forbidden packetRules faultPlace flipped identifier linkLocal fromMac midOfIdentifier midOf indicationValues contentRules choiceRules roomRules indicationRules stopBy byArea byDestination bySource choose receive requestValues linkRules resolveRules requestRules down send
+unfolding Edges rows test same allZero digits number bits goodArea normalBy normal sameNumbers hasNormal sameArea agrees holdsPrefix overlap goodPrefix interfaceOk settingsValues groundRules settingsRules sameGround overlaps any place areaAt interfaceAt enabledAt slotRules rules linkAfter tableAfter reply startValues cleared fresh start multicast goodHop forbidden packetRules faultPlace flipped identifier linkLocal fromMac midOfIdentifier midOf indicationValues contentRules choiceRules roomRules indicationRules stopBy byArea byDestination bySource choose receive neighbourOf requestValues linkRules resolveRules requestRules down send
 edges = by-test rows tt
