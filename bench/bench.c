@@ -92,19 +92,19 @@ static void costs_of(const struct day *d, int days, struct cost *cost) {
 
 // The head of the rows, and a row. Most rows have no copies on the C side, so that there is no ratio of them.
 #ifdef COUNT_COPIES
-static void print_head(void) { printf("%-52s %9s %9s\n", "copies of the table for one record", "C", "proved"); }
+static void print_head(void) { printf("%-58s %9s %9s\n", "copies of the table for one record", "C", "proved"); }
 
-static void print_row(const char *name, struct cost x) { printf("%-52s %9.0f %9.0f\n", name, x.c, x.proved); }
+static void print_row(const char *name, struct cost x) { printf("%-58s %9.0f %9.0f\n", name, x.c, x.proved); }
 #else
 #ifdef COUNT_INSTRUCTIONS
 #define UNIT "one record, in instructions"
 #else
 #define UNIT "one record, in nanoseconds"
 #endif
-static void print_head(void) { printf("%-52s %9s %9s %7s\n", UNIT, "C", "proved", "ratio"); }
+static void print_head(void) { printf("%-58s %9s %9s %7s\n", UNIT, "C", "proved", "ratio"); }
 
 static void print_row(const char *name, struct cost x) {
-    printf("%-52s %9.1f %9.1f %7.2f\n", name, x.c, x.proved, x.proved / x.c);
+    printf("%-58s %9.1f %9.1f %7.2f\n", name, x.c, x.proved, x.proved / x.c);
 }
 #endif
 
@@ -122,22 +122,36 @@ static struct day new_day(u64 first, u64 stops) {
 }
 
 // What is appended to a day many times over: a record, or a few that belong together.
-enum work { AREA, OTHERWISE, PREFIX, SOURCE, TSB, REFUSED, SHORT, VERSION, LENGTH_FIELD, UNICAST, MULTICAST, GROUP_TVL, FIXED, AGAIN, OWN_MID, DGVL_AREA, RETIRED, IN_AND_OUT };
+enum work {
+    AREA, OTHERWISE, PREFIX, SOURCE, TSB, REFUSED, SHORT, VERSION, LENGTH_FIELD,
+    UNICAST, OLD_UNICAST, MULTICAST, GROUP_TVL, NO_HOP, GROUP_HOP,
+    FIXED, AGAIN, OWN_MID, DGVL_AREA, RETIRED, IN_AND_OUT
+};
+
+// Next hops: one that gives a MID, one that would if it were not multicast, and ::, which the multicast packets have, because there
+// none is asked.
+static const u8 mast[16] = { 0xfe, 0x80, [11] = 0xff, [12] = 0xfe, [15] = 3 };
+static const u8 group[16] = { 0xff, 0x02, [11] = 0xff, [12] = 0xfe, [15] = 3 };
+static const u8 unspecified[16];
 
 static void put_work(struct day *d, enum work w, u64 stop, usize length) {
     static u8 p[1280];
-    make_packet(p, length, w == SOURCE ? stop : NO_STOP, w == PREFIX || w == UNICAST ? stop : NO_STOP);
+    make_packet(p, length, w == SOURCE ? stop : NO_STOP, w == PREFIX || w == OLD_UNICAST ? stop : NO_STOP);
     if (w == REFUSED) p[8] = 0xff;
     if (w == SHORT) length = 39;
     if (w == VERSION) p[0] = 0x50;
     if (w == LENGTH_FIELD) p[5]++;
+    if (w == UNICAST) p[35] = 0; // the far end gives no MID, so that a side which resolves it is noticed
     if (w == MULTICAST || w == GROUP_TVL) p[24] = 0xff;
     switch (w) {
     case AREA: case OTHERWISE: put_indication(d, 3, stop, w == OTHERWISE, p, length); break;
     case PREFIX: case SOURCE: case REFUSED: case SHORT: case VERSION: case LENGTH_FIELD: put_indication(d, 1, 0, false, p, length); break;
     case TSB: put_indication(d, 4, 0, false, p, length); break;
-    case UNICAST: case MULTICAST: put_request(d, stop + 2, p, length); break;
-    case GROUP_TVL: put_request(d, 0, p, length); break;
+    case UNICAST: put_request(d, stop + 2, mast, p, length); break;
+    case GROUP_HOP: put_request(d, stop + 2, group, p, length); break;
+    case NO_HOP: case MULTICAST: put_request(d, stop + 2, unspecified, p, length); break;
+    case GROUP_TVL: put_request(d, 0, unspecified, p, length); break;
+    case OLD_UNICAST: put_old_request(d, stop + 2, p, length); break;
     case FIXED: put(d, 3), put(d, 0); break;
     case AGAIN: put_start(d, 65); break;
     case OWN_MID: put(d, 5), put(d, 0x020000000004); break;
@@ -197,10 +211,13 @@ static void print_indications(void) {
 }
 
 static void print_requests_and_reading(void) {
-    print_row("request, unicast on the last of 64", one(UNICAST, 64, 63, 40));
+    print_row("request, unicast by the next hop's MID, on the last of 64", one(UNICAST, 64, 63, 40));
+    print_row("old request (kind 7), unicast on the last of 64", one(OLD_UNICAST, 64, 63, 40));
     print_row("request, multicast on the last of 64", one(MULTICAST, 64, 63, 40));
     print_row("request, multicast on the topological link", one(GROUP_TVL, 64, 0, 40));
     print_row("request refused: no such link, 0 enabled", one(UNICAST, 0, 63, 40));
+    print_row("request refused: next hop ::", one(NO_HOP, 64, 63, 40));
+    print_row("request refused: next hop multicast", one(GROUP_HOP, 64, 63, 40));
     print_row("reading: indication by area before the start (16)", unread(3, 40));
     print_row("reading: indication by prefix before the start (16)", unread(1, 40));
     print_row("reading: second start (16)", one(AGAIN, 64, 0, 40));
@@ -219,8 +236,9 @@ static void print_growth(void) {
     print_row("request, packet of 1,280 bytes", one(UNICAST, 64, 63, 1280));
 }
 
-// Days with a few bytes changed at random: both sides must answer alike there too. A fifth of them get room for a few lines only, and
-// a seventh a buffer that is too short for some of the frames, or for all.
+// Days with a few bytes changed at random, half of them to a record kind or the number before or behind these: both sides must answer
+// alike there too. A fifth of the days get room for a few lines only, and a seventh a buffer that is too short for some of the frames,
+// or for all.
 static void compare_damaged_days(int count) {
     u64 seed = 1;
     struct day d = new_day(0, 5);
@@ -230,7 +248,7 @@ static void compare_damaged_days(int count) {
         memcpy(e.bytes, d.bytes, d.length);
         for (int k = 0; k < 4; k++) {
             seed = seed * 6364136223846793005UL + 1442695040888963407UL;
-            e.bytes[(seed >> 33) % d.length] = (u8)(k % 2 ? seed >> 25 : (seed >> 25) % 8);
+            e.bytes[(seed >> 33) % d.length] = (u8)(k % 2 ? seed >> 25 : (seed >> 25) % 10);
         }
         e.length = i % 3 ? d.length : (seed >> 40) % d.length; // a third of them are cut
         if (!alike(&e, i % 7 ? ROOM : (seed >> 45) % 80, i % 5 ? NUMBERS : (seed >> 50) % 80)) wrong++;

@@ -158,7 +158,7 @@ impl Counts {
     /// Counts what these lines, which list this day file, show.
     pub fn add(&mut self, input: &[u8], lines: &[Line]) {
         let mut lines = lines.iter();
-        for_each_call(up_to_the_limit(input), |replay, call| {
+        for_each_call(up_to_the_limit(input), |replay, _, call| {
             let answer = lines.next().map(|line| line.answer);
             let comparison = answer.and_then(|answer| Comparison::of_record(call, &answer));
             if let (Some(table), Some(comparison)) = (replay.table(), comparison) {

@@ -31,7 +31,7 @@ impl Destination {
     }
 }
 
-/// A call that a record can hold, its packet borrowed.
+/// A call that a record can hold, its packet and next hop borrowed.
 #[derive(Clone, Copy, Debug, PartialEq, Eq)]
 pub enum Call<'a> {
     Start(StartSettings),
@@ -51,10 +51,14 @@ pub mod kind {
     pub const DGVL_AREA: u64 = 4;
     pub const OWN_MID: u64 = 5;
     pub const INDICATION: u64 = 6;
-    pub const REQUEST: u64 = 7;
+    /// Of a request from before there were next hops: read, but not written
+    /// (`record-hop`).
+    pub const OLD_REQUEST: u64 = 7;
+    pub const REQUEST: u64 = 8;
 }
 
 impl Call<'_> {
+    /// The kind of the record that the call is written as.
     pub fn kind(&self) -> u64 {
         match self {
             Call::Start(_) => kind::START,

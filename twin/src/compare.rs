@@ -1,16 +1,16 @@
 //! Compares another `daylist` with the twin over generated day files.
 
+mod report;
+
 use std::fs;
 use std::path::{Path, PathBuf};
 use std::time::Duration;
 
-use crate::alike;
 use crate::generate::day_file;
 use crate::generate::random::Random;
-use crate::listing::{lines, print, RecordKind};
-use crate::orders::Counts;
-use crate::pairs::{allowed_pairs, name_of_kind, Seen};
+use crate::listing::{lines, print};
 use crate::program::{self, Feeding};
+use report::{Coverage, Score};
 
 const DEFAULT_FILES: u64 = 1_000;
 const DEFAULT_SEED: u64 = 1;
@@ -81,42 +81,15 @@ fn number_of(name: &str, value: Option<&String>) -> Result<u64, String> {
     text.parse().map_err(|_| format!("{name} needs a number, not {text}"))
 }
 
-/// Files, pairs, situations and likenesses that passed and failed.
-#[derive(Default)]
-struct Score {
-    passed: u64,
-    failed: u64,
-}
-
-impl Score {
-    fn count(&mut self, good: bool) {
-        match good {
-            true => self.passed += 1,
-            false => self.failed += 1,
-        }
-    }
-
-    /// Prints how often something was seen; never is a failure.
-    fn count_seen(&mut self, what: &str, count: u64) {
-        let note = if count == 0 { "  NOT SEEN" } else { "" };
-        println!("{what} {count:>9}{note}");
-        self.count(count > 0);
-    }
-}
-
 /// Runs the comparison and prints its report; true if nothing failed.
 pub fn run(options: &Options) -> bool {
     let mut score = Score::default();
-    let mut seen = Seen::default();
-    let mut counts = Counts::default();
-    let mut alike = alike::Counts::default();
+    let mut coverage = Coverage::default();
     let mut files = 0;
     while files < options.files && score.failed < MOST_FAILURES {
         let input = day_file(options.seed, files);
         let own_lines = lines(&input);
-        seen.add(&own_lines);
-        counts.add(&input);
-        alike.add(&input, &own_lines);
+        coverage.add(&input, &own_lines);
         let outcome = agree(options, files, &input, &print(&own_lines));
         if let Err(difference) = &outcome {
             tell_failure(options.seed, files, &input, difference);
@@ -127,10 +100,8 @@ pub fn run(options: &Options) -> bool {
     if files < options.files {
         println!("stopped after {} failures", score.failed);
     }
-    println!("seed {}, {} files, {} records listed", options.seed, files, seen.records());
-    report_pairs(&seen, &mut score);
-    report_situations(&counts, &mut score);
-    report_likenesses(&alike, &mut score);
+    println!("seed {}, {} files, {} records listed", options.seed, files, coverage.records());
+    coverage.report(&mut score);
     println!("{} passed, {} failed", score.passed, score.failed);
     score.failed == 0
 }
@@ -179,33 +150,6 @@ fn tell_failure(seed: u64, number: u64, input: &[u8], difference: &str) {
     match fs::write(&path, input) {
         Ok(()) => println!("  saved as {}", path.display()),
         Err(error) => println!("  could not be saved as {}: {error}", path.display()),
-    }
-}
-
-fn report_pairs(seen: &Seen, score: &mut Score) {
-    println!("{:<16} {:>5} {:>9}", "record", "reply", "count");
-    for (kind, reply) in allowed_pairs() {
-        let what = format!("{:<16} {reply:>5}", name_of_kind(kind));
-        score.count_seen(&what, seen.count((kind, reply)));
-    }
-    for (kind, reply) in seen.not_allowed() {
-        println!("{:<16} {reply:>5}  NOT ALLOWED by the rules", name_of_kind(kind));
-        score.count(false);
-    }
-}
-
-fn report_situations(counts: &Counts, score: &mut Score) {
-    println!("{:<16} {:<28} {:>9}", "record", "reply over another, or cause", "count");
-    for (situation, count) in counts.rows() {
-        let kind = name_of_kind(RecordKind::Known(situation.kind));
-        score.count_seen(&format!("{kind:<16} {:<28}", situation.name()), *count);
-    }
-}
-
-fn report_likenesses(counts: &alike::Counts, score: &mut Score) {
-    println!("{:<16} {:<60} {:>9}", "record", "areas compared", "count");
-    for row in counts.rows() {
-        score.count_seen(&format!("{:<16} {:<60}", row.caller.name(), row.way.name()), row.count);
     }
 }
 

@@ -9,7 +9,10 @@
 //! A short packet lacks bytes that other conditions name. A condition holds of it
 //! only where all the bytes that its rule names are there: byte 0 for 21; bytes 4
 //! and 5 for 22; the whole of an address for 10; the destination's first byte for
-//! 11 and 12, and for 12 the bytes of FF FE too where the MID comes from there.
+//! 11 and 12.
+//!
+//! A next hop that is not good is 12 on every link (`request-refusals`), so that it
+//! needs no enabled one.
 
 use crate::arriving::{Indication, FRAME_HEADER_LENGTH};
 use crate::call::{Call, Destination};
@@ -96,7 +99,7 @@ fn of_request(table: &Table, request: &Request) -> Vec<Condition> {
     conditions.extend(of_packet(request.packet));
     conditions.extend([
         (11, multicast == Some(true) && without_area),
-        (12, multicast == Some(false) && link.is_some_and(|link| lacks_a_mid(link, request))),
+        (12, multicast == Some(false) && lacks_a_mid(link, request)),
     ]);
     conditions
 }
@@ -140,11 +143,17 @@ fn destination_is_multicast(packet: &[u8]) -> Option<bool> {
     packet.get(24).map(|&first| first == 0xFF)
 }
 
-/// `neighbour-mid`: FF FE are the 4th and 5th of the destination's last 8 bytes.
-fn lacks_a_mid(link: Interface, request: &Request) -> bool {
-    match link.derives_the_mid() {
-        true => request.packet.get(35..37).is_some_and(|middle| middle != [0xFF, 0xFE]),
-        false => request.neighbour.is_none(),
+/// `neighbour-mid`: FF FE are the 4th and 5th of the next hop's last 8 bytes.
+fn lacks_a_mid(link: Option<Interface>, request: &Request) -> bool {
+    let hop = request.next_hop;
+    let nobody = hop.len() != 16 || hop == UNSPECIFIED || hop == LOOPBACK;
+    if nobody || hop[0] == 0xFF {
+        return true;
+    }
+    match link.map(Interface::derives_the_mid) {
+        Some(true) => hop[11..13] != [0xFF, 0xFE],
+        Some(false) => request.neighbour.is_none(),
+        None => false,
     }
 }
 

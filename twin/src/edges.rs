@@ -1,12 +1,14 @@
 //! The cases of "Cases at the edges" that bear no *. They run in a program, and
 //! in an independent second one (`edge-stars`): this is the second one.
 
+mod sent;
+
 use crate::area::{Area, RECTANGLE};
 use crate::arriving::Indication;
 use crate::call::{Destination, GEO_BROADCAST, TSB};
 use crate::leaving::Request;
 use crate::link::InterfaceNumbers;
-use crate::packet::fault_place;
+use crate::packet::{fault_place, UNSPECIFIED};
 use crate::prefix::{Prefix, NO_PREFIX};
 use crate::reply::{Refusal, DONE};
 use crate::table::{StartSettings, StopSettings, Table, DGVL, TVL};
@@ -34,6 +36,7 @@ pub fn cases() -> Vec<Case> {
         buffer_of_packet_and_13(),
     ];
     cases.extend(places_of_bad_packets());
+    cases.extend(sent::cases());
     cases
 }
 
@@ -44,10 +47,16 @@ const STOP: StopSettings = StopSettings { area: STOP_AREA, prefix: NO_PREFIX, in
 
 /// A table of maximum 2 whose only stop link has STOP's settings.
 fn table_with_one_stop() -> Table {
+    table_with_stop_of_flag(STOP.interface.flag)
+}
+
+/// As above, but for the stop's flag.
+fn table_with_stop_of_flag(flag: u64) -> Table {
     let settings = StartSettings { own_mid: 1, maximum: 2, tvl: LAN, dgvl: LAN };
     let (_, mut table) = Table::start(&settings);
+    let interface = InterfaceNumbers { flag, ..LAN };
     // If this were refused, the cases below would differ and say so.
-    let _ = table.enable(&STOP);
+    let _ = table.enable(&StopSettings { interface, ..STOP });
     table
 }
 
@@ -149,7 +158,8 @@ fn places_of_bad_packets() -> Vec<Case> {
 fn received_and_sent(what: &str, packet: &[u8], refusal: Refusal, place: usize) -> [Case; 2] {
     let table = table_with_one_stop();
     let indicated = table.indication(&tsb(packet), &mut [0; 1_294]);
-    let request = Request { index: TVL, class: 0, neighbour: None, packet };
+    let next_hop = &UNSPECIFIED;
+    let request = Request { index: TVL, class: 0, neighbour: None, next_hop, packet };
     let requested = table.request(&request);
     [
         ("indication", number_and_place(indicated, packet)),
@@ -172,9 +182,9 @@ mod tests {
     use super::*;
 
     #[test]
-    fn all_nine_agree() {
+    fn all_thirteen_agree() {
         let cases = cases();
-        assert_eq!(cases.len(), 9);
+        assert_eq!(cases.len(), 9 + 4);
         for case in cases {
             assert!(case.agrees(), "{}", case.line());
         }

@@ -2,16 +2,20 @@
 
 use crate::area::Area;
 use crate::call::{Destination, GEO_BROADCAST, GEO_UNICAST, TSB};
+use crate::hop::good_next_hop;
+use crate::link::Interface;
 use crate::mid::{check_mid, mid_of_address};
-use crate::packet::{check_packet, is_multicast, Address};
+use crate::packet::{check_packet, is_multicast};
 use crate::reply::Refusal;
 use crate::table::{Table, DGVL, TVL};
 
+/// `request-given`. The next hop is a run of bytes that may have any length.
 #[derive(Clone, Copy, Debug, PartialEq, Eq)]
 pub struct Request<'a> {
     pub index: u64,
     pub class: u8,
     pub neighbour: Option<u64>,
+    pub next_hop: &'a [u8],
     pub packet: &'a [u8],
 }
 
@@ -37,8 +41,8 @@ impl Table {
         let (transport, destination) = if is_multicast(&to) {
             self.multicast(request.index)?
         } else {
-            let derived = interface.derives_the_mid();
-            (GEO_UNICAST, Destination::Mid(neighbour_mid(derived, &to, request.neighbour)?))
+            let mid = neighbour_mid(interface, request).ok_or(Refusal::NeighbourNotResolvable)?;
+            (GEO_UNICAST, Destination::Mid(mid))
         };
         let length = request.packet.len();
         Ok(Sending { transport, destination, class: request.class, length })
@@ -63,10 +67,14 @@ impl Table {
     }
 }
 
-/// `neighbour-mid`: a derived MID ignores the one given; 12 where none is had.
-fn neighbour_mid(derived: bool, to: &Address, given: Option<u64>) -> Result<u64, Refusal> {
-    let mid = if derived { mid_of_address(to) } else { given };
-    mid.ok_or(Refusal::NeighbourNotResolvable)
+/// `neighbour-mid`: there is none where the next hop is not good, though one is
+/// given; a derived MID ignores the one given.
+fn neighbour_mid(interface: Interface, request: &Request) -> Option<u64> {
+    let hop = good_next_hop(request.next_hop)?;
+    match interface.derives_the_mid() {
+        true => mid_of_address(&hop),
+        false => request.neighbour,
+    }
 }
 
 #[cfg(test)]

@@ -56,7 +56,7 @@ impl Interface {
         Ok(())
     }
 
-    /// `neighbour-mid`: on kind 3, or with flag 1, from the packet's destination.
+    /// `neighbour-mid`: on kind 3, or with flag 1, from the next hop.
     pub fn derives_the_mid(self) -> bool {
         self.kind == Kind::PointToPoint || self.resolve
     }

@@ -1,6 +1,7 @@
 //! MIDs (docs/RULES.md, "MID") and their modified EUI-64 form (RFC 4291,
 //! appendix A).
 
+use crate::hop::good_next_hop;
 use crate::reply::Refusal;
 
 pub const LARGEST_MID: u64 = (1 << 48) - 1;
@@ -16,6 +17,11 @@ pub fn check_mid(mid: u64) -> Result<(), Refusal> {
         return Err(Refusal::ValueOutsideItsList);
     }
     Ok(())
+}
+
+/// The MID as a MAC address is written: `02:00:00:00:00:01`.
+pub fn mac_text(mid: u64) -> String {
+    mac_bytes(mid).map(|byte| format!("{byte:02X}")).join(":")
 }
 
 /// `mid-number`: the six bytes of a MAC address, highest first.
@@ -41,10 +47,10 @@ pub fn link_local_address(mid: u64) -> [u8; 16] {
     address
 }
 
-/// `mid-from-address`: the MID in an address's last 8 bytes, if FF FE are their
-/// 4th and 5th.
+/// `mid-from-address`: the MID in the last 8 bytes of a good next hop, if FF FE are
+/// their 4th and 5th. Other addresses give none, though FF FE stand there.
 pub fn mid_of_address(address: &[u8; 16]) -> Option<u64> {
-    let identifier = &address[8..16];
+    let identifier = &good_next_hop(address)?[8..16];
     if identifier[3..5] != MIDDLE {
         return None;
     }
@@ -105,6 +111,22 @@ mod tests {
         ] {
             assert_eq!(mid_of_address(&identifier(bytes)), None);
         }
+    }
+
+    #[test]
+    fn a_multicast_address_gives_none_though_it_has_ff_fe() {
+        let mut address = link_local_address(0x0200_0000_0001);
+        for second in [0, 2, 0x80, 0xFF] {
+            (address[0], address[1]) = (0xFF, second);
+            assert_eq!(mid_of_address(&address), None);
+        }
+        (address[0], address[1]) = (0xFE, 0xFF);
+        assert_eq!(mid_of_address(&address), Some(0x0200_0000_0001));
+    }
+
+    #[test]
+    fn written_as_a_mac_address() {
+        assert_eq!(mac_text(0x02AB_0000_00C7), "02:AB:00:00:00:C7");
     }
 
     #[test]

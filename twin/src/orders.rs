@@ -52,13 +52,13 @@ const ORDERS_OF_INDICATION: Orders = &[
 
 /// `request-refusals`: 1, 7, 9, 20, 21, 22, 10, 11, 12.
 ///
-/// Missing are 9 over 20, as above; 7 over 11, since index 1 always is enabled; 7
-/// over 12, since without a link there is no kind or flag to ask for the MID; and
-/// 11 over 12, of which one is for multicast, the other for all else. 1 over 12
-/// needs a link where the given MID is ignored.
+/// Missing are 9 over 20, as above; 7 over 11, since index 1 always is enabled; and
+/// 11 over 12, of which one is for multicast, the other for all else. 7 over 12 is
+/// there: a next hop that is not good is 12 whatever the link is. In kind 7 that is
+/// a destination :: or ::1, or a packet under 40 bytes (`record-hop`).
 const ORDERS_OF_REQUEST: Orders = &[
     (1, &[7, 9, 20, 21, 22, 10, 11, 12]),
-    (7, &[9, 20, 21, 22, 10]),
+    (7, &[9, 20, 21, 22, 10, 12]),
     (9, &[21, 22, 10, 11, 12]),
     (20, &[21, 22, 10, 11, 12]),
     (21, &[22, 10, 11, 12]),
@@ -121,10 +121,11 @@ pub struct Situation {
 
 /// Every situation that must be seen: the orders of a kind, then its causes.
 pub fn situations() -> Vec<Situation> {
-    let of_kinds: [(u64, Orders, &[Cause]); 4] = [
+    let of_kinds: [(u64, Orders, &[Cause]); 5] = [
         (kind::START, ORDERS_OF_START, &[]),
         (kind::ENABLE, ORDERS_OF_ENABLE, &[]),
         (kind::INDICATION, ORDERS_OF_INDICATION, &CAUSES),
+        (kind::OLD_REQUEST, ORDERS_OF_REQUEST, &CAUSES),
         (kind::REQUEST, ORDERS_OF_REQUEST, &CAUSES),
     ];
     let mut situations = Vec::new();
@@ -171,7 +172,7 @@ struct Refused<'a> {
 }
 
 impl Refused<'_> {
-    fn of_call<'a>(table: Option<&Table>, call: &Call<'a>) -> Option<Refused<'a>> {
+    fn of_record<'a>(table: Option<&Table>, kind: u64, call: &Call<'a>) -> Option<Refused<'a>> {
         let packet = match call {
             Call::Indication(indication) => Some(indication.packet),
             Call::Request(request) => Some(request.packet),
@@ -179,7 +180,7 @@ impl Refused<'_> {
         };
         let mut holding = holding(table, call).into_iter();
         let given = holding.next()?;
-        Some(Refused { kind: call.kind(), given, later: holding.collect(), packet })
+        Some(Refused { kind, given, later: holding.collect(), packet })
     }
 }
 
@@ -196,8 +197,8 @@ impl Counts {
     /// Counts what a listing of this day file shows. Where 16 is listed nothing is
     /// counted, since it comes before the call's own refusals (`record-order`).
     pub fn add(&mut self, input: &[u8]) {
-        for_each_call(up_to_the_limit(input), |replay, call| {
-            if let Some(record) = Refused::of_call(replay.table(), call) {
+        for_each_call(up_to_the_limit(input), |replay, kind, call| {
+            if let Some(record) = Refused::of_record(replay.table(), kind, call) {
                 self.add_record(&record);
             }
         });

@@ -11,6 +11,8 @@ const VERSION: u8 = 6;
 const VERSION_PLACE: usize = 0;
 /// The first of the two bytes of the payload length field.
 const LENGTH_FIELD_PLACE: usize = 4;
+const SOURCE_PLACE: usize = 8;
+const DESTINATION_PLACE: usize = 24;
 
 pub type Address = [u8; 16];
 
@@ -35,8 +37,10 @@ pub fn check_packet(packet: &[u8]) -> Result<Addresses, Refusal> {
         return Err(Refusal::PacketAbove1280);
     }
     check_header(packet)?;
-    let addresses =
-        Addresses { source: address_at(packet, 8), destination: address_at(packet, 24) };
+    let addresses = Addresses {
+        source: address_at(packet, SOURCE_PLACE),
+        destination: address_at(packet, DESTINATION_PLACE),
+    };
     if !addresses.are_allowed() {
         return Err(Refusal::AddressNotAllowed);
     }
@@ -60,6 +64,11 @@ fn check_header(packet: &[u8]) -> Result<(), Refusal> {
 
 fn payload_length_field(packet: &[u8]) -> usize {
     usize::from(packet[LENGTH_FIELD_PLACE]) * 256 + usize::from(packet[LENGTH_FIELD_PLACE + 1])
+}
+
+/// Bytes 24 to 39, of a packet that has them.
+pub fn destination_bytes(packet: &[u8]) -> Option<&[u8]> {
+    packet.get(DESTINATION_PLACE..HEADER_LENGTH)
 }
 
 fn address_at(packet: &[u8], place: usize) -> Address {

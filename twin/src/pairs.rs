@@ -18,17 +18,23 @@ pub type Pair = (RecordKind, u8);
 /// Not among them: 13, since 9 comes before it and 1,294 is 1,280 + 14
 /// (`listing-lent`). In an indication 1 is left for its MIDs only, since a
 /// transport outside 1..4 is broken and the sort follows from the transport.
-const REPLIES_OF_KIND: [(u64, &[u8]); 7] = [
+///
+/// The two kinds of requests have the same replies. In kind 7 the next hop is the
+/// packet's destination (`record-hop`), which is good where 12 is asked: :: and ::1
+/// are 10 before, and multicast is never 12. So 12 is left for a destination without
+/// FF FE where the MID is derived, and for no MID given.
+const REPLIES_OF_KIND: [(u64, &[u8]); 8] = [
     (kind::START, &[0, 1, 14, 16, 30]),
     (kind::ENABLE, &[0, 1, 2, 3, 4, 5, 6, 14, 16, 30]),
     (kind::DISABLE, &[0, 7, 14, 15, 16]),
     (kind::DGVL_AREA, &[0, 2, 14, 16]),
     (kind::OWN_MID, &[0, 1, 14, 16]),
     (kind::INDICATION, &[0, 1, 2, 9, 10, 14, 16, 20, 21, 22]),
+    (kind::OLD_REQUEST, &[0, 1, 7, 9, 10, 11, 12, 14, 16, 20, 21, 22]),
     (kind::REQUEST, &[0, 1, 7, 9, 10, 11, 12, 14, 16, 20, 21, 22]),
 ];
 
-/// A first number outside 1..7, or one that is no number (overlong, above
+/// A first number outside 1..8, or one that is no number (overlong, above
 /// 2^64 - 1 or cut), can only be broken (`record-broken`).
 const ONLY_BROKEN: [RecordKind; 2] = [RecordKind::Unknown, RecordKind::Unreadable];
 
@@ -49,7 +55,8 @@ pub fn name_of_kind(kind: RecordKind) -> &'static str {
         RecordKind::Known(kind::DGVL_AREA) => "4 DGVL area",
         RecordKind::Known(kind::OWN_MID) => "5 own MID",
         RecordKind::Known(kind::INDICATION) => "6 indication",
-        RecordKind::Known(kind::REQUEST) => "7 request",
+        RecordKind::Known(kind::OLD_REQUEST) => "7 old request",
+        RecordKind::Known(kind::REQUEST) => "8 request",
         RecordKind::Known(_) | RecordKind::Unknown => "unknown kind",
         RecordKind::Unreadable => "kind unreadable",
     }
@@ -88,7 +95,7 @@ mod tests {
     #[test]
     fn the_number_of_allowed_pairs() {
         let pairs = allowed_pairs();
-        assert_eq!(pairs.len(), 5 + 10 + 5 + 4 + 4 + 10 + 12 + 2);
+        assert_eq!(pairs.len(), 5 + 10 + 5 + 4 + 4 + 10 + 2 * 12 + 2);
         assert!(pairs.iter().all(|&(_, reply)| reply != 13));
     }
 

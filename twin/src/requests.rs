@@ -7,7 +7,7 @@ use crate::area::Area;
 use crate::call::{Call, Destination};
 use crate::leaving::{Request, Sending};
 use crate::listing::up_to_the_limit;
-use crate::mid::mac_bytes;
+use crate::mid::mac_text;
 use crate::replay::{for_each_call, Replay};
 use crate::reply::{Refusal, DONE};
 
@@ -20,11 +20,11 @@ pub struct Sent {
     pub outcome: Result<Sending, Refusal>,
 }
 
-/// One for each whole request record, up to the first broken record.
+/// One for each whole request record, of kind 7 or 8, up to the first broken record.
 pub fn requests(input: &[u8]) -> Vec<Sent> {
     let mut sent = Vec::new();
     let mut record = 0;
-    for_each_call(up_to_the_limit(input), |replay, call| {
+    for_each_call(up_to_the_limit(input), |replay, _, call| {
         record += 1;
         if let Call::Request(request) = call {
             sent.push(Sent { record, outcome: ask(replay, request) });
@@ -60,7 +60,7 @@ fn columns(sending: &Sending) -> String {
 /// A MID as a MAC address, the six numbers of an area, or `nothing`.
 fn destination_column(destination: &Destination) -> String {
     match destination {
-        Destination::Mid(mid) => mac_bytes(*mid).map(|byte| format!("{byte:02X}")).join(":"),
+        Destination::Mid(mid) => mac_text(*mid),
         Destination::Area(area) => area_column(area),
         Destination::Nothing => "nothing".to_string(),
     }

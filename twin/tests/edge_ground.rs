@@ -5,6 +5,7 @@ use twin::arriving::Indication;
 use twin::call::{Call, Destination, GEO_ANYCAST, GEO_BROADCAST};
 use twin::leaving::Request;
 use twin::link::InterfaceNumbers;
+use twin::packet::UNSPECIFIED;
 use twin::prefix::NO_PREFIX;
 use twin::reply::Refusal;
 use twin::requests;
@@ -137,7 +138,8 @@ fn edge_given() {
     let mut table = table_with_stop(given_ellipse());
     table.set_dgvl_area(Some(given_ellipse())).unwrap();
     for index in [DGVL, FIRST_STOP] {
-        let request = Request { index, class: 0, neighbour: None, packet: &multicast_packet() };
+        let (next_hop, packet) = (&UNSPECIFIED, &multicast_packet());
+        let request = Request { index, class: 0, neighbour: None, next_hop, packet };
         let sending = table.request(&request).unwrap();
         assert_eq!(sending.transport, GEO_BROADCAST);
         assert_eq!(sending.destination, Destination::Area(given_ellipse()));
@@ -146,8 +148,8 @@ fn edge_given() {
 
 #[test]
 fn edge_given_as_it_is_printed() {
-    let packet = multicast_packet();
-    let request = Request { index: FIRST_STOP, class: 0, neighbour: None, packet: &packet };
+    let (next_hop, packet) = (&UNSPECIFIED, &multicast_packet());
+    let request = Request { index: FIRST_STOP, class: 0, neighbour: None, next_hop, packet };
     let calls = [Call::Start(START), Call::Enable(stop(given_ellipse())), Call::Request(request)];
     let day: Vec<u8> = calls.iter().flat_map(|call| record_bytes(call).unwrap()).collect();
     let printed = requests::print(&requests::requests(&day));

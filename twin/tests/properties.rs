@@ -1,14 +1,18 @@
 //! Properties over generated day files.
 
+use twin::call::Call;
 use twin::generate::random::Random;
+use twin::generate::requests::old_request_pieces;
 use twin::generate::themes;
 use twin::generate::{day_file, FILES_OF_A_ROUND};
+use twin::leaving::Request;
 use twin::link::Kind;
 use twin::listing::{lines, listing, print, MOST_INPUT};
 use twin::read::read_record;
-use twin::replay::Replay;
+use twin::replay::{for_each_call, Replay};
 use twin::reply::Refusal;
-use twin::write::{record_bytes, write_record};
+use twin::table::Table;
+use twin::write::{joined, record_bytes, write_record};
 
 /// Every whole record of these bytes with its offset and end.
 fn for_each_record(bytes: &[u8], mut look: impl FnMut(usize, usize)) -> usize {
@@ -20,6 +24,8 @@ fn for_each_record(bytes: &[u8], mut look: impl FnMut(usize, usize)) -> usize {
     offset
 }
 
+/// Kind 7 aside, which is read alone (`record-hop`): there the record is the one that
+/// is written but for its kind and its next hop.
 #[test]
 fn written_records_read_back_and_are_the_only_form() {
     for number in 0..200 {
@@ -27,7 +33,13 @@ fn written_records_read_back_and_are_the_only_form() {
         for_each_record(&bytes, |offset, behind| {
             let (call, _) = read_record(&bytes, offset).unwrap();
             let written = record_bytes(&call).expect("a call that was read has a form");
-            assert_eq!(written, bytes[offset..behind]);
+            let form = match call {
+                Call::Request(request) if bytes[offset] == 7 => {
+                    joined(&old_request_pieces(&request))
+                }
+                _ => written.clone(),
+            };
+            assert_eq!(form, bytes[offset..behind]);
             assert_eq!(read_record(&written, 0), Ok((call, written.len())));
         });
     }
@@ -90,6 +102,38 @@ fn tables_keep_what_the_rules_say_of_them() {
             }
         });
     }
+}
+
+/// The rule from before there were next hops: the packet's destination is resolved.
+fn is_12_by_the_old_rule(table: &Table, request: &Request) -> bool {
+    let unicast = request.packet[24] != 0xFF;
+    let derived = table.interface(request.index).unwrap().derives_the_mid();
+    let has_mid = match derived {
+        true => request.packet[35..37] == [0xFF, 0xFE],
+        false => request.neighbour.is_some(),
+    };
+    unicast && !has_mid
+}
+
+/// `record-hop`: a request of kind 7 answers as it did.
+#[test]
+fn requests_of_kind_7_answer_as_before_there_were_next_hops() {
+    let (mut done, mut refused) = (0, 0);
+    for number in 0..100 {
+        for_each_call(&day_file(18, number), |replay, kind, call| {
+            let (Some(table), 7, Call::Request(request)) = (replay.table(), kind, call) else {
+                return;
+            };
+            let is_12 = match table.request(request) {
+                Ok(_) => false,
+                Err(Refusal::NeighbourNotResolvable) => true,
+                Err(_) => return,
+            };
+            assert_eq!(is_12, is_12_by_the_old_rule(table, request));
+            (done, refused) = (done + u64::from(!is_12), refused + u64::from(is_12));
+        });
+    }
+    assert!(done > 100 && refused > 100, "{done} done, {refused} refused");
 }
 
 #[test]

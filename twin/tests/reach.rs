@@ -14,7 +14,7 @@ use twin::listing::{lines, Line, RecordKind, MOST_INPUT};
 use twin::mid::LARGEST_MID;
 use twin::orders::Counts;
 use twin::pairs::{allowed_pairs, Seen};
-use twin::read::read_record;
+use twin::read::{kind_of_record, read_record};
 use twin::replay::{Answer, Replay};
 use twin::reply::Refusal;
 use twin::table::{StartSettings, Table};
@@ -55,7 +55,7 @@ impl Situations {
         }
     }
 
-    fn of_call(&mut self, table: &Table, call: &Call, answer: Answer) {
+    fn of_record(&mut self, table: &Table, kind: u64, call: &Call, answer: Answer) {
         match call {
             Call::Start(settings) if Table::start(settings).0 == Err(Refusal::RetiredKind) => {
                 self.add("second start that would be 30")
@@ -71,7 +71,7 @@ impl Situations {
             Call::Indication(indication) if answer.reply == 0 => {
                 self.of_indication(table, indication, answer)
             }
-            Call::Request(request) if answer.reply == 0 => self.of_request(table, request),
+            Call::Request(request) if answer.reply == 0 => self.of_request(table, kind, request),
             _ => {}
         }
     }
@@ -91,7 +91,7 @@ impl Situations {
         self.add(format!("destination held {}, source held {}", holds(24), holds(8)));
     }
 
-    fn of_request(&mut self, table: &Table, request: &Request) {
+    fn of_request(&mut self, table: &Table, kind: u64, request: &Request) {
         let on = request.index.min(2);
         let sending = table.request(request).unwrap();
         let sort = match sending.destination {
@@ -100,7 +100,7 @@ impl Situations {
             Destination::Area(_) => "area",
             Destination::Nothing => "nothing",
         };
-        self.add(format!("request {} {sort} on {on}", sending.transport));
+        self.add(format!("kind {kind}: {} {sort} on {on}", sending.transport));
     }
 }
 
@@ -113,8 +113,9 @@ fn situations() -> Situations {
         while let Ok((call, behind)) = read_record(bytes, offset) {
             let before = replay.table().cloned();
             let answer = replay.call(&call);
+            let kind = kind_of_record(bytes, offset).unwrap();
             match (before, call) {
-                (Some(table), call) => situations.of_call(&table, &call, answer),
+                (Some(table), call) => situations.of_record(&table, kind, &call, answer),
                 (None, Call::Start(settings)) => situations.of_start(&settings, answer.reply),
                 (None, _) => {}
             }
@@ -131,8 +132,6 @@ fn wanted() -> Vec<String> {
         "destination held true, source held true",
         "destination held true, source held false",
         "destination held false, source held true",
-        "request 3 area on 1",
-        "request 3 area on 2",
         "second start that would be 30",
     ]
     .map(String::from)
@@ -149,9 +148,18 @@ fn wanted() -> Vec<String> {
     wanted.push(format!("indication {TSB} on 0"));
     for on in 0..=2 {
         wanted.extend([false, true].map(|framed| format!("frame {framed} on {on}")));
-        wanted.extend(["given", "derived"].map(|sort| format!("request 1 {sort} MID on {on}")));
     }
-    wanted.push("request 4 nothing on 0".to_string());
+    wanted.extend([kind::OLD_REQUEST, kind::REQUEST].into_iter().flat_map(wanted_of_requests));
+    wanted
+}
+
+fn wanted_of_requests(kind: u64) -> Vec<String> {
+    let mut wanted = vec![format!("kind {kind}: 4 nothing on 0")];
+    wanted.extend([1, 2].map(|on| format!("kind {kind}: 3 area on {on}")));
+    for on in 0..=2 {
+        wanted
+            .extend(["given", "derived"].map(|sort| format!("kind {kind}: 1 {sort} MID on {on}")));
+    }
     wanted
 }
 

@@ -33,8 +33,11 @@ fn packet(to: Address) -> Vec<u8> {
     [&[0x40, 0, 0, 0, 0, 1, 0x3B, 0x40][..], &LOOPBACK, &to].concat()
 }
 
+/// By a good next hop without FF FE.
 fn of_sent(table: &Table, packet: &[u8]) -> Vec<u8> {
-    holding(Some(table), &Call::Request(Request { index: DGVL, class: 0, neighbour: None, packet }))
+    let next_hop = &PLAIN;
+    let request = Request { index: DGVL, class: 0, neighbour: None, next_hop, packet };
+    holding(Some(table), &Call::Request(request))
 }
 
 /// The lengths at which the condition of the reply holds of a request on the DGVL.
@@ -52,7 +55,7 @@ fn of_a_short_packet_a_condition_needs_the_bytes_that_it_names() {
         (10, PLAIN, 1, 24),
         (11, MULTICAST, 1, 25),
         (12, PLAIN, 0, 25),
-        (12, PLAIN, 1, 37),
+        (12, PLAIN, 1, 25),
     ] {
         let expected: Vec<usize> = (first..=40).collect();
         assert_eq!(lengths_with(reply, to, flag), expected, "{reply}");
@@ -123,6 +126,30 @@ fn conditions_of_traffic_do_not_hide_each_other() {
 }
 
 #[test]
+fn a_bad_next_hop_is_12_beside_each_other_reply() {
+    let mut good = packet(PLAIN);
+    (good[0], good[5], good[8]) = (0x60, 0, 0x20);
+    let mast = [&PLAIN[..11], &[0xFF, 0xFE], &PLAIN[13..]].concat();
+    for (index, flag, neighbour, next_hop, expected) in [
+        (DGVL, 1, None, &mast[..], &[][..]),
+        (DGVL, 1, Some(5), &PLAIN, &[12]),
+        (DGVL, 0, Some(5), &PLAIN, &[]),
+        (DGVL, 0, None, &mast, &[12]),
+        (DGVL, 0, Some(5), &UNSPECIFIED, &[12]),
+        (DGVL, 0, Some(5), &LOOPBACK, &[12]),
+        (DGVL, 0, Some(5), &MULTICAST, &[12]),
+        (DGVL, 0, Some(5), &mast[..15], &[12]),
+        (9, 1, None, &mast, &[7]),
+        (9, 1, None, &PLAIN, &[7]),
+        (9, 1, Some(u64::MAX), &UNSPECIFIED, &[1, 7, 12]),
+    ] {
+        let request = Request { index, class: 0, neighbour, next_hop, packet: &good };
+        let held = holding(Some(&table(flag)), &Call::Request(request));
+        assert_eq!(held, expected, "{next_hop:02x?}");
+    }
+}
+
+#[test]
 fn the_packets_part_is_that_of_the_calls() {
     for length in 0..=41 {
         for (to, version, field) in [(PLAIN, 6, 0), (PLAIN, 6, 1), (PLAIN, 5, 0), (LOOPBACK, 6, 0)]
@@ -140,11 +167,11 @@ fn the_packets_part_is_that_of_the_calls() {
 /// `reply-first`: the first that holds is listed, and 0 where none does.
 #[test]
 fn the_first_that_holds_is_listed() {
-    let kinds = [kind::START, kind::ENABLE, kind::INDICATION, kind::REQUEST];
+    let kinds = [kind::START, kind::ENABLE, kind::INDICATION, kind::OLD_REQUEST, kind::REQUEST];
     for number in 0..100 {
         let day = day_file(21, number);
         let mut listed = lines(&day).into_iter();
-        for_each_call(up_to_the_limit(&day), |replay, call| {
+        for_each_call(up_to_the_limit(&day), |replay, _, call| {
             let Line { kind, answer } = listed.next().unwrap();
             let asked = kinds.map(RecordKind::Known).contains(&kind);
             if !asked || answer.reply == Refusal::StartOutOfPlace.number() {

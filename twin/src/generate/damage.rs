@@ -1,11 +1,14 @@
 //! Days with one broken record among whole ones, broken at every kind of place
 //! that `record-broken` names.
 
+mod hop;
+
 use super::day::Day;
 use super::random::Random;
+use super::requests::old_request_pieces;
 use super::themes;
 use super::values::{alias, wide_alias};
-use crate::call::kind;
+use crate::call::{kind, Call};
 use crate::numbers::number_bytes;
 use crate::read::read_record;
 use crate::write::{record_pieces, Piece};
@@ -34,14 +37,17 @@ pub fn damaged(mut random: Random) -> Vec<u8> {
 }
 
 fn broken_record(random: &mut Random, day: &Day) -> BrokenRecord {
-    match random.below(20) {
+    match random.below(30) {
         0 | 1 => unknown_kind(random),
-        2 => unreadable_kind(random),
-        3..=5 => cut(random, day),
-        6..=8 => number_replaced(random, day, overlong),
-        9..=11 => number_replaced(random, day, too_large),
-        12 => number_cut(random, day),
-        13 | 14 => packet_beyond_the_end(random, day),
+        2..=4 => unknown_kind_of_whole_record(random, day),
+        5 => unreadable_kind(random),
+        6..=8 => cut(random, day),
+        9..=11 => number_replaced(random, day, overlong),
+        12..=14 => number_replaced(random, day, too_large),
+        15 => number_cut(random, day),
+        16 | 17 => packet_beyond_the_end(random, day),
+        18 | 19 => hop::cut(random, day),
+        20..=22 => hop::left_out(random, day),
         _ => value_out_of_bounds(random, day),
     }
 }
@@ -53,7 +59,10 @@ fn pieces_of_kind(random: &mut Random, day: &Day, wanted: u64) -> Vec<Piece> {
     scratch.bad = 0;
     scratch.any_of_kind(wanted);
     let (call, _) = read_record(scratch.last_record(), 0).expect("just written");
-    record_pieces(&call).expect("just written")
+    match call {
+        Call::Request(request) if wanted == kind::OLD_REQUEST => old_request_pieces(&request),
+        call => record_pieces(&call).expect("just written"),
+    }
 }
 
 fn encoded(pieces: &[Piece]) -> Vec<Vec<u8>> {
@@ -73,9 +82,17 @@ fn unknown_kind(random: &mut Random) -> BrokenRecord {
     let known = any_kind(random);
     let number = match random.percent(50) {
         true => alias(random, known),
-        false => random.pick(&[0, 8, 9, 10, 64, 127, 128, 255, 1 << 63, u64::MAX]),
+        false => random.pick(&[0, 9, 10, 11, 64, 127, 128, 255, 1 << 63, u64::MAX]),
     };
     BrokenRecord { bytes: number_bytes(number), must_be_last: false }
+}
+
+/// A whole record, most often a request, but for its kind, which is just outside 1..8.
+fn unknown_kind_of_whole_record(random: &mut Random, day: &Day) -> BrokenRecord {
+    let wanted = if random.percent(60) { kind::REQUEST } else { any_kind(random) };
+    let mut pieces = pieces_of_kind(random, day, wanted);
+    pieces[0] = Piece::Number(random.pick(&[0, 9]));
+    BrokenRecord { bytes: encoded(&pieces).concat(), must_be_last: false }
 }
 
 fn unreadable_kind(random: &mut Random) -> BrokenRecord {
@@ -148,7 +165,7 @@ fn number_cut(random: &mut Random, day: &Day) -> BrokenRecord {
 
 /// A packet length above what is left, by one or by very much.
 fn packet_beyond_the_end(random: &mut Random, day: &Day) -> BrokenRecord {
-    let wanted = random.pick(&[kind::INDICATION, kind::REQUEST]);
+    let wanted = random.pick(&[kind::INDICATION, kind::OLD_REQUEST, kind::REQUEST]);
     let pieces = pieces_of_kind(random, day, wanted);
     let mut parts = encoded(&pieces);
     let place = pieces.len() - 2;
@@ -166,7 +183,7 @@ fn packet_beyond_the_end(random: &mut Random, day: &Day) -> BrokenRecord {
 
 /// The places of the numbers with bounds of their own (in front of each stands
 /// the record kind), and the first numbers outside these bounds.
-const BOUNDED: [(u64, usize, &[u64]); 6] = [
+const BOUNDED: [(u64, usize, &[u64]); 8] = [
     // prefix length
     (kind::ENABLE, 7, &[129, 130, 136, 255]),
     // choice of an area
@@ -175,8 +192,10 @@ const BOUNDED: [(u64, usize, &[u64]); 6] = [
     (kind::INDICATION, 1, &[0, 5]),
     // class
     (kind::INDICATION, 3, &[256, 257]),
+    (kind::OLD_REQUEST, 2, &[256, 257]),
     (kind::REQUEST, 2, &[256, 257]),
     // choice of a neighbour's MID
+    (kind::OLD_REQUEST, 3, &[2, 3]),
     (kind::REQUEST, 3, &[2, 3]),
 ];
 

@@ -7,15 +7,14 @@ use super::{areas, prefixes, values};
 use crate::area::Area;
 use crate::arriving::Indication;
 use crate::call::{kind, Call, Destination, GEO_UNICAST, TSB};
-use crate::leaving::Request;
 use crate::link::InterfaceNumbers;
 use crate::prefix::Prefix;
 use crate::replay::{Answer, Replay};
 use crate::table::{StartSettings, StopSettings, Table};
 use crate::write::record_bytes;
 
-/// How likely each record kind 1 to 7 is.
-pub type Weights = [u64; 7];
+/// How likely each record kind 1 to 8 is.
+pub type Weights = [u64; 8];
 
 #[derive(Clone)]
 pub struct Day {
@@ -59,9 +58,14 @@ impl Day {
     /// Writes the call's record and replays it.
     pub fn add(&mut self, call: &Call) -> Answer {
         let record = record_bytes(call).expect("generated calls have a record form");
+        self.add_record(&record)
+    }
+
+    /// Writes the whole record and replays it.
+    pub fn add_record(&mut self, record: &[u8]) -> Answer {
         self.offsets.push(self.bytes.len());
         self.bytes.extend(record);
-        self.replay.call(call)
+        self.replay.record(record, 0).expect("generated records are whole").0
     }
 
     /// The areas of the enabled stops and of the DGVL.
@@ -135,11 +139,6 @@ impl Day {
         self.indicate(transport, Destination::Area(area), &packet)
     }
 
-    pub fn request_on(&mut self, index: u64, neighbour: Option<u64>, packet: &[u8]) -> Answer {
-        let class = self.random.byte();
-        self.add(&Call::Request(Request { index, class, neighbour, packet }))
-    }
-
     /// Disables one of the enabled stops, if there is one.
     pub fn disable_one(&mut self) {
         if let Some(index) = values::enabled_index(&mut self.random, self.replay.table()) {
@@ -158,14 +157,6 @@ impl Day {
         self.indicate(transport, destination, &packet)
     }
 
-    fn any_request(&mut self) -> Answer {
-        let index = self.index();
-        let given = self.random.percent(50);
-        let neighbour = given.then(|| values::mid(&mut self.random, self.bad));
-        let packet = self.packet();
-        self.request_on(index, neighbour, &packet)
-    }
-
     /// Area and prefix of a stop, new or like those that the table knows.
     pub fn area_and_prefix(&mut self) -> (Area, Prefix) {
         let known = self.known_prefixes();
@@ -178,7 +169,7 @@ impl Day {
         self.add(&Call::DgvlArea(area))
     }
 
-    /// Any record of this kind, 1 to 7.
+    /// Any record of this kind, 1 to 8.
     pub fn any_of_kind(&mut self, wanted: u64) -> Answer {
         match wanted {
             kind::START => {
@@ -202,7 +193,7 @@ impl Day {
                 let transport = self.random.between(1, 4);
                 self.any_indication(transport)
             }
-            _ => self.any_request(),
+            _ => self.any_request(wanted),
         }
     }
 

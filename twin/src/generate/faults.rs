@@ -4,11 +4,10 @@
 use super::day::Day;
 use super::packets;
 use super::random::Random;
-use super::{areas, prefixes, values};
+use super::{areas, hops, prefixes, values};
 use crate::area::Area;
 use crate::arriving::Indication;
 use crate::call::{Call, Destination, GEO_ANYCAST, GEO_BROADCAST, GEO_UNICAST};
-use crate::leaving::Request;
 use crate::link::{InterfaceNumbers, RETIRED_KIND};
 use crate::packet::{Address, LOOPBACK};
 use crate::prefix::{Prefix, NO_PREFIX};
@@ -83,6 +82,7 @@ pub fn several_faults(random: Random) -> Day {
     for _ in 0..50 {
         add_enable(&mut day);
         add_indication(&mut day);
+        add_old_request(&mut day);
         add_request(&mut day);
     }
     day
@@ -157,29 +157,60 @@ fn add_indication(day: &mut Day) {
     day.add(&Call::Indication(Indication { transport, source, class, destination, packet }));
 }
 
+/// Of kind 7: the next hop is the packet's destination.
+fn add_old_request(day: &mut Day) {
+    let random = &mut day.random;
+    let faults = Faults::any(random, &OF_REQUEST);
+    let index = faulty_index(random, &faults);
+    let to = match faults.has(MulticastWithoutArea) {
+        true => packets::multicast(random),
+        false => faulty_identifier(random, &faults),
+    };
+    let neighbour = faulty_neighbour(random, &faults);
+    let packet = faulty_packet(random, &faults, &to);
+    day.old_request_on(index, neighbour, &packet);
+}
+
+/// Of kind 8: the next hop alone says whether it is 12.
 fn add_request(day: &mut Day) {
     let random = &mut day.random;
     let faults = Faults::any(random, &OF_REQUEST);
-    let index = if faults.has(NoEnabledLink) {
+    let index = faulty_index(random, &faults);
+    let to = match faults.has(MulticastWithoutArea) {
+        true => packets::multicast(random),
+        false => packets::address(random, &[], 0),
+    };
+    let next_hop = match faults.has(NeighbourNotResolvable) && random.percent(50) {
+        true => random.pick(&hops::BAD_MAKERS)(random),
+        false => faulty_identifier(random, &faults),
+    };
+    let neighbour = faulty_neighbour(random, &faults);
+    let packet = faulty_packet(random, &faults, &to);
+    day.request_by(index, neighbour, &next_hop, &packet);
+}
+
+fn faulty_index(random: &mut Random, faults: &Faults) -> u64 {
+    if faults.has(NoEnabledLink) {
         random.pick(&[8, 9, 10, 258, u64::MAX])
     } else if faults.has(MulticastWithoutArea) {
         DGVL
     } else {
         random.below(6)
-    };
-    let to = if faults.has(MulticastWithoutArea) {
-        packets::multicast(random)
-    } else if faults.has(NeighbourNotResolvable) {
-        packets::without_identifier(random)
-    } else {
-        packets::with_identifier(random)
-    };
-    // 1 needs a MID that is given; 12 holds besides where the link ignores it.
+    }
+}
+
+/// A good next hop that gives a MID, or none.
+fn faulty_identifier(random: &mut Random, faults: &Faults) -> Address {
+    match faults.has(NeighbourNotResolvable) {
+        true => packets::without_identifier(random),
+        false => packets::with_identifier(random),
+    }
+}
+
+/// 1 needs a MID that is given; 12 holds besides where the link ignores it.
+fn faulty_neighbour(random: &mut Random, faults: &Faults) -> Option<u64> {
     let given = faults.has(ValueOutsideItsList) || !faults.has(NeighbourNotResolvable);
-    let neighbour = given.then(|| values::mid(random, faults.percent(ValueOutsideItsList)));
-    let packet = faulty_packet(random, &faults, &to);
-    let class = random.byte();
-    day.add(&Call::Request(Request { index, class, neighbour, packet: &packet }));
+    given.then(|| values::mid(random, faults.percent(ValueOutsideItsList)))
 }
 
 /// A packet with those of the faults that a packet can have.

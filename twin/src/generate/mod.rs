@@ -8,12 +8,14 @@ pub mod compared;
 pub mod damage;
 pub mod day;
 pub mod faults;
+pub mod hops;
 pub mod joined;
 pub mod near;
 pub mod noise;
 pub mod packets;
 pub mod prefixes;
 pub mod random;
+pub mod requests;
 pub mod sizes;
 pub mod starts;
 pub mod themes;
@@ -25,7 +27,7 @@ use random::Random;
 
 /// An odd number: `compare` can feed every second file in pieces, and so each theme
 /// comes in pieces in every second round.
-pub const FILES_OF_A_ROUND: u64 = 31;
+pub const FILES_OF_A_ROUND: u64 = 33;
 const _: () = assert!(FILES_OF_A_ROUND % 2 == 1);
 
 /// The file of this number under this seed.
@@ -48,10 +50,11 @@ pub fn day_file(seed: u64, number: u64) -> Vec<u8> {
         12 => winter::last_winter(random).into_bytes(),
         13 | 14 => themes::mixed(random).into_bytes(),
         15 | 16 => faults::several_faults(random).into_bytes(),
-        17..=25 => damage::damaged(random),
-        26 => noise::bytes_changed(random),
-        27 => noise::cut_or_shifted(random),
-        28 => noise::formless(random),
+        17 => hops::next_hops(random).into_bytes(),
+        18..=27 => damage::damaged(random),
+        28 => noise::bytes_changed(random),
+        29 => noise::cut_or_shifted(random),
+        30 => noise::formless(random),
         _ => sizes::around_the_limit(random),
     }
 }

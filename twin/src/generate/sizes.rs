@@ -3,7 +3,7 @@
 use super::day::Day;
 use super::random::Random;
 use super::values;
-use crate::call::Call;
+use crate::call::{kind, Call};
 use crate::listing::MOST_INPUT;
 
 /// One of the ways a day can meet the limit.
@@ -33,11 +33,11 @@ pub fn around_the_limit(random: Random) -> Vec<u8> {
 fn fill_to(day: &mut Day, size: usize) {
     // No record of this day is longer than 2,100 bytes.
     while day.bytes().len() + 2_100 < size {
-        day.any_records(1, &[1, 20, 10, 5, 5, 60, 60]);
+        day.any_records(1, &[1, 20, 10, 5, 5, 60, 25, 40]);
     }
     day.long = 0;
     while day.bytes().len() + 150 < size {
-        day.any_records(1, &[1, 20, 10, 5, 5, 60, 60]);
+        day.any_records(1, &[1, 20, 10, 5, 5, 60, 25, 40]);
     }
     while day.bytes().len() < size {
         // A disable of two bytes, or of three for an odd rest.
@@ -50,7 +50,7 @@ fn fill_to(day: &mut Day, size: usize) {
 fn more_behind_the_limit(day: &mut Day) {
     fill_to(day, MOST_INPUT);
     let count = day.random.between(1, 60);
-    day.any_records(count, &[1, 1, 1, 1, 1, 1, 1]);
+    day.any_records(count, &[1; 8]);
 }
 
 /// Nothing behind the limit is read, so nothing there is broken either.
@@ -67,12 +67,12 @@ fn broken_behind_the_limit(mut day: Day) -> Vec<u8> {
 fn cut_by_the_limit(day: &mut Day) {
     let before = day.random.between(2, 39) as usize;
     fill_to(day, MOST_INPUT - before);
-    // With a packet of 40 bytes or more either of them is longer than that.
+    // With a packet of 40 bytes or more each of them is longer than that.
     day.bad = 0;
-    let kind = day.random.pick(&[6, 7]);
+    let kind = day.random.pick(&[kind::INDICATION, kind::OLD_REQUEST, kind::REQUEST]);
     day.any_of_kind(kind);
     let count = day.random.below(5);
-    day.any_records(count, &[1, 1, 1, 1, 1, 1, 1]);
+    day.any_records(count, &[1; 8]);
 }
 
 /// The limit cuts a number that would go on behind it.

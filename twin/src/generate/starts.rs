@@ -9,7 +9,7 @@ use crate::link::RETIRED_KIND;
 use crate::table::StartSettings;
 
 /// Records of every kind but starts: before a start each of them is 16.
-pub const ALL_BUT_STARTS: Weights = [0, 2, 2, 2, 2, 2, 2];
+pub const ALL_BUT_STARTS: Weights = [0, 2, 2, 2, 2, 2, 1, 2];
 
 pub fn starts(random: Random) -> Day {
     let mut day = Day::new(random, 20);
@@ -21,7 +21,7 @@ pub fn starts(random: Random) -> Day {
     }
     let maximum = values::maximum(&mut day.random, 0);
     day.good_start(maximum);
-    day.any_records(60, &[10, 20, 6, 5, 5, 20, 20]);
+    day.any_records(60, &[10, 20, 6, 5, 5, 20, 10, 15]);
     day
 }
 

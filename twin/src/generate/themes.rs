@@ -2,6 +2,7 @@
 
 use super::day::{Day, Weights};
 use super::faults::several_faults;
+use super::hops::next_hops;
 use super::packets;
 use super::random::Random;
 use super::starts::starts;
@@ -12,8 +13,9 @@ use crate::prefix::{Prefix, NO_PREFIX};
 use crate::reply::Refusal;
 use crate::table::LARGEST_MAXIMUM;
 
-/// Starts, enables, disables, DGVL areas, own MIDs, indications, requests.
-const ALL_CALLS: Weights = [1, 25, 8, 7, 4, 30, 25];
+/// Starts, enables, disables, DGVL areas, own MIDs, indications, requests of kinds 7
+/// and 8.
+const ALL_CALLS: Weights = [1, 25, 8, 7, 4, 30, 10, 18];
 
 /// Full tables: every index enabled, then 6; disables and enables again.
 pub fn full_table(random: Random, maximum: u64) -> Day {
@@ -146,7 +148,7 @@ pub fn packet_bounds(random: Random) -> Day {
         send_and_receive(&mut day, length);
     }
     day.long = 10;
-    day.any_records(90, &[0, 1, 1, 1, 1, 50, 40]);
+    day.any_records(90, &[0, 1, 1, 1, 1, 50, 20, 30]);
     day
 }
 
@@ -170,12 +172,12 @@ pub fn requests(random: Random) -> Day {
     day.good_start(7);
     day.enable_each_interface();
     for _ in 0..2 {
-        day.any_records(3, &[0, 0, 1, 5, 1, 0, 0]);
+        day.any_records(3, &[0, 0, 1, 5, 1, 0, 0, 0]);
         for index in 0..=7 {
             request_each_destination(&mut day, index);
         }
         day.bad = 5;
-        day.any_records(20, &[0, 2, 2, 6, 1, 3, 30]);
+        day.any_records(20, &[0, 2, 2, 6, 1, 3, 10, 20]);
     }
     day
 }
@@ -218,7 +220,7 @@ pub fn mixed(random: Random) -> Day {
 
 /// One of the days that is not too long to be damaged with profit.
 pub fn any(mut random: Random) -> Day {
-    match random.below(8) {
+    match random.below(9) {
         0 => {
             let maximum = values::maximum(&mut random, 0);
             full_table(random, maximum)
@@ -229,6 +231,7 @@ pub fn any(mut random: Random) -> Day {
         4 => starts(random),
         5 => out_of_range(random),
         6 => several_faults(random),
+        7 => next_hops(random),
         _ => mixed(random),
     }
 }

@@ -10,7 +10,7 @@ use crate::link::{InterfaceNumbers, RETIRED_KIND};
 use crate::table::StopSettings;
 
 /// More enables than disables, so that a small table gets full.
-const AMONG_THE_STOPS: Weights = [0, 4, 2, 1, 1, 6, 6];
+const AMONG_THE_STOPS: Weights = [0, 4, 2, 1, 1, 6, 4, 2];
 
 /// Starts of kind 2 with records behind them, which are 16; then a good start, and
 /// the day goes on.

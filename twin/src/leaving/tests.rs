@@ -2,7 +2,7 @@ use super::*;
 use crate::area::CIRCLE;
 use crate::link::InterfaceNumbers;
 use crate::mid::{link_local_address, LARGEST_MID};
-use crate::packet::{fault_place, LOOPBACK};
+use crate::packet::{fault_place, Address, LOOPBACK, UNSPECIFIED};
 use crate::prefix::NO_PREFIX;
 use crate::reply::Refusal::*;
 use crate::table::{StartSettings, StopSettings};
@@ -13,6 +13,10 @@ const SOURCE: Address = [0x20; 16];
 const MULTICAST: Address = [0xFF, 2, 0, 0, 0, 0, 0, 0, 0, 0, 0, 0, 0, 0, 0, 1];
 /// No FF FE within the identifier.
 const PLAIN: Address = [0x21; 16];
+/// What can be no neighbour's address (`next-hop`).
+const BAD_HOPS: [Address; 4] = [UNSPECIFIED, LOOPBACK, MULTICAST, [0xFF; 16]];
+/// Kind and flag of the links that derive the MID.
+const DERIVING: [(u64, u64); 4] = [(1, 1), (2, 1), (3, 0), (3, 1)];
 
 fn area(latitude: i128) -> Area {
     Area { shape: CIRCLE, latitude, longitude: 0, a: 1, b: 0, angle: 0 }
@@ -43,8 +47,19 @@ fn table(kind: u64, flag: u64) -> Table {
     table
 }
 
+/// Its next hop is good, and gives no MID.
 fn request(index: u64, neighbour: Option<u64>, packet: &[u8]) -> Request<'_> {
-    Request { index, class: 200, neighbour, packet }
+    Request { index, class: 200, neighbour, next_hop: &PLAIN, packet }
+}
+
+/// As above, with this next hop.
+fn request_by<'a>(
+    next_hop: &'a [u8],
+    index: u64,
+    neighbour: Option<u64>,
+    packet: &'a [u8],
+) -> Request<'a> {
+    Request { next_hop, ..request(index, neighbour, packet) }
 }
 
 fn sending(transport: u64, destination: Destination) -> Sending {
@@ -81,53 +96,92 @@ fn multicast_on_the_dgvl_without_an_area() {
     assert_eq!(table.request(&asked), Err(MulticastWithoutArea));
 }
 
-#[test]
-fn unicast_with_a_derived_mid_ignores_the_given_one() {
-    let to_neighbour = packet(SOURCE, link_local_address(NEIGHBOUR));
-    let expected = sending(GEO_UNICAST, Destination::Mid(NEIGHBOUR));
-    for (kind, flag) in [(1, 1), (2, 1), (3, 0), (3, 1)] {
-        for index in 0..=3 {
-            for given in [None, Some(GIVEN)] {
-                let answer = table(kind, flag).request(&request(index, given, &to_neighbour));
-                assert_eq!(answer, Ok(expected));
-            }
-        }
-    }
-}
-
-#[test]
-fn unicast_without_ff_fe_is_not_resolvable() {
-    let to_plain = packet(SOURCE, PLAIN);
-    for (kind, flag) in [(1, 1), (2, 1), (3, 0), (3, 1)] {
-        for index in 0..=3 {
-            let answer = table(kind, flag).request(&request(index, Some(GIVEN), &to_plain));
-            assert_eq!(answer, Err(NeighbourNotResolvable));
-        }
-    }
-}
-
-#[test]
-fn unicast_with_the_given_mid() {
-    for destination in [PLAIN, link_local_address(NEIGHBOUR)] {
+/// Every link, with a MID given and without, to destinations with FF FE and without.
+fn for_each_unicast(mut look: impl FnMut(u64, Option<u64>, &[u8])) {
+    for destination in [PLAIN, link_local_address(NEIGHBOUR), link_local_address(9)] {
         let unicast = packet(SOURCE, destination);
-        let expected = sending(GEO_UNICAST, Destination::Mid(GIVEN));
-        for kind in [1, 2] {
-            for index in 0..=3 {
-                let table = table(kind, 0);
-                let answer = table.request(&request(index, Some(GIVEN), &unicast));
+        for index in 0..=3 {
+            look(index, None, &unicast);
+            look(index, Some(GIVEN), &unicast);
+        }
+    }
+}
+
+#[test]
+fn multicast_does_not_ask_the_next_hop() {
+    let to_all = packet(SOURCE, MULTICAST);
+    for (kind, flag) in [(1, 0), (1, 1), (3, 0)] {
+        for hop in BAD_HOPS {
+            for run in [&hop[..], &hop[..15], &[]] {
+                let answer = table(kind, flag).request(&request_by(run, 2, Some(GIVEN), &to_all));
+                let expected = sending(GEO_BROADCAST, Destination::Area(area(2)));
                 assert_eq!(answer, Ok(expected));
-                let answer = table.request(&request(index, None, &unicast));
-                assert_eq!(answer, Err(NeighbourNotResolvable));
             }
+        }
+    }
+}
+
+#[test]
+fn a_derived_mid_is_that_of_the_next_hop_and_ignores_destination_and_given_one() {
+    let mast = link_local_address(NEIGHBOUR);
+    let expected = sending(GEO_UNICAST, Destination::Mid(NEIGHBOUR));
+    for (kind, flag) in DERIVING {
+        let table = table(kind, flag);
+        for_each_unicast(|index, given, unicast| {
+            assert_eq!(table.request(&request_by(&mast, index, given, unicast)), Ok(expected));
+        });
+    }
+}
+
+#[test]
+fn a_next_hop_without_ff_fe_is_not_resolvable_where_the_mid_is_derived() {
+    for (kind, flag) in DERIVING {
+        let table = table(kind, flag);
+        for_each_unicast(|index, given, unicast| {
+            let answer = table.request(&request_by(&PLAIN, index, given, unicast));
+            assert_eq!(answer, Err(NeighbourNotResolvable));
+        });
+    }
+}
+
+#[test]
+fn the_given_mid_with_a_good_next_hop_of_any_sort() {
+    for hop in [PLAIN, link_local_address(NEIGHBOUR)] {
+        for kind in [1, 2] {
+            let table = table(kind, 0);
+            for_each_unicast(|index, given, unicast| {
+                let mid = given.ok_or(NeighbourNotResolvable);
+                let expected = mid.map(|mid| sending(GEO_UNICAST, Destination::Mid(mid)));
+                assert_eq!(table.request(&request_by(&hop, index, given, unicast)), expected);
+            });
+        }
+    }
+}
+
+#[test]
+fn a_bad_next_hop_is_not_resolvable_on_any_link_though_a_mid_is_given() {
+    let mut with_ff_fe = link_local_address(NEIGHBOUR);
+    with_ff_fe[0] = 0xFF;
+    let long = [link_local_address(NEIGHBOUR).as_slice(), &[0]].concat();
+    let mut runs: Vec<&[u8]> = BAD_HOPS.iter().map(|hop| &hop[..]).collect();
+    runs.extend([&with_ff_fe[..], &long[..], &long[..15], &[]]);
+    for (kind, flag) in [(1, 0), (2, 0), (1, 1), (2, 1), (3, 0), (3, 1)] {
+        let table = table(kind, flag);
+        for run in &runs {
+            for_each_unicast(|index, given, unicast| {
+                let answer = table.request(&request_by(run, index, given, unicast));
+                assert_eq!(answer, Err(NeighbourNotResolvable), "{run:02x?}");
+            });
         }
     }
 }
 
 #[test]
 fn a_derived_mid_is_not_judged() {
-    let mut to_group = link_local_address(LARGEST_MID);
-    to_group[0] = 0x20;
-    let answer = table(3, 0).request(&request(0, None, &packet(SOURCE, to_group)));
+    let mut group = link_local_address(LARGEST_MID);
+    group[0] = 0x20;
+    let unicast = packet(SOURCE, PLAIN);
+    let answer = table(3, 0).request(&request_by(&group, 0, None, &unicast));
     assert_eq!(answer.unwrap().destination, Destination::Mid(LARGEST_MID));
 }
 
@@ -154,7 +208,10 @@ fn refusals_come_in_order() {
         (1, None, &packet(SOURCE, MULTICAST), MulticastWithoutArea),
         (1, None, &packet(SOURCE, PLAIN), NeighbourNotResolvable),
     ] {
-        assert_eq!(table.request(&request(index, neighbour, packet)), Err(refusal));
+        for hop in [PLAIN, UNSPECIFIED, MULTICAST] {
+            let answer = table.request(&request_by(&hop, index, neighbour, packet));
+            assert_eq!(answer, Err(refusal));
+        }
     }
 }
 

@@ -1,7 +1,9 @@
 use super::*;
 use crate::generate::day_file;
+use crate::generate::requests::old_request_pieces;
 use crate::leaving::Request;
-use crate::write::record_bytes;
+use crate::packet::UNSPECIFIED;
+use crate::write::{joined, record_bytes};
 
 /// `reply-first`, "The orders"; and what the comments above say of the missing.
 type Row = (Orders, &'static [u8], &'static [(u8, u8)]);
@@ -13,7 +15,7 @@ const ROWS: [Row; 4] = [
         &[1, 2, 9, 20, 21, 22, 10, 13],
         &[(9, 20), (20, 13), (21, 13), (22, 13), (10, 13)],
     ),
-    (ORDERS_OF_REQUEST, &[1, 7, 9, 20, 21, 22, 10, 11, 12], &[(7, 11), (7, 12), (9, 20), (11, 12)]),
+    (ORDERS_OF_REQUEST, &[1, 7, 9, 20, 21, 22, 10, 11, 12], &[(7, 11), (9, 20), (11, 12)]),
 ];
 
 #[test]
@@ -34,7 +36,7 @@ fn every_order_is_there_but_for_the_impossible() {
 
 #[test]
 fn the_number_of_situations() {
-    assert_eq!(situations().len(), 1 + 20 + 23 + 32 + 2 * CAUSES.len());
+    assert_eq!(situations().len(), 1 + 20 + 23 + 2 * 33 + 3 * CAUSES.len());
 }
 
 /// Whether one of the situations is that order of the record.
@@ -48,8 +50,8 @@ fn is_wanted(record: &Refused, later: u8) -> bool {
 fn no_other_order_is_seen() {
     for number in 0..60 {
         let day = day_file(22, number);
-        for_each_call(up_to_the_limit(&day), |replay, call| {
-            let Some(record) = Refused::of_call(replay.table(), call) else { return };
+        for_each_call(up_to_the_limit(&day), |replay, kind, call| {
+            let Some(record) = Refused::of_record(replay.table(), kind, call) else { return };
             for &later in &record.later {
                 assert!(is_wanted(&record, later), "{} over {later}", record.given);
             }
@@ -67,10 +69,15 @@ fn seen_in(day: &[u8]) -> Vec<String> {
     seen.map(|(situation, _)| situation.name()).collect()
 }
 
-/// The names of what is seen of a request with this packet on the TVL.
+/// The names of what is seen of a request, of either kind, with this packet on the TVL.
 fn seen_of(packet: &[u8]) -> Vec<String> {
-    let request = Call::Request(Request { index: 0, class: 0, neighbour: None, packet });
-    seen_in(&[&START[..], &record_bytes(&request).unwrap()].concat())
+    let next_hop = &UNSPECIFIED;
+    let request = Request { index: 0, class: 0, neighbour: None, next_hop, packet };
+    let old = joined(&old_request_pieces(&request));
+    let new = record_bytes(&Call::Request(request)).unwrap();
+    let [old, new] = [old, new].map(|record| seen_in(&[&START[..], &record].concat()));
+    assert_eq!(old, new);
+    new
 }
 
 /// From 2020:... to ff20:..., where nothing but the packet can be refused.

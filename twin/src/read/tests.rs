@@ -154,14 +154,44 @@ fn a_class_above_255() {
     for class in [256, 257, 511, 65_536, u64::MAX] {
         assert_broken(&[vec![6, 4, 3], wide(class), vec![0]].concat());
         assert_broken(&[vec![7, 0], wide(class), vec![0, 0]].concat());
+        assert_broken(&[vec![8, 0], wide(class), vec![0; 18]].concat());
+    }
+}
+
+/// Sixteen different bytes, which are no whole number.
+const HOP: [u8; 16] = [
+    0x80, 0x81, 0x82, 0x83, 0x84, 0x85, 0x86, 0x87, 0x88, 0x89, 0x8A, 0x8B, 0x8C, 0x8D, 0x8E, 0x8F,
+];
+
+/// `record-request`: the next hop is plain bytes, before the packet's length.
+#[test]
+fn request_records() {
+    let (next_hop, packet) = (&HOP, &[0xAA, 0xBB]);
+    let expected = Request { index: 2, class: 128, neighbour: Some(9), next_hop, packet };
+    let with = [&[8, 2, 0x80, 0x01, 1, 9], &HOP[..], &[2, 0xAA, 0xBB]].concat();
+    assert_eq!(read(&with), Call::Request(expected));
+    let without = [&[8, 2, 0x80, 0x01, 0], &HOP[..], &[2, 0xAA, 0xBB]].concat();
+    assert_eq!(read(&without), Call::Request(Request { neighbour: None, ..expected }));
+    assert_broken_when_cut(&with);
+    assert_broken_when_cut(&without);
+    for choice in [2, 256, 257, u64::MAX] {
+        assert_broken(&[vec![8, 2, 0], wide(choice), vec![0; 30]].concat());
     }
 }
 
 #[test]
-fn request_records() {
+fn a_next_hop_of_any_sixteen_bytes_is_whole() {
+    for byte in [0, 1, 0x80, 0xFF] {
+        let record = [&[8, 0, 0, 0], &[byte; 16][..], &[0]].concat();
+        assert!(matches!(read(&record), Call::Request(request) if request.next_hop == [byte; 16]));
+    }
+}
+
+#[test]
+fn old_request_records() {
+    let (next_hop, packet) = (&UNSPECIFIED, &[0xAA, 0xBB]);
+    let expected = Request { index: 2, class: 128, neighbour: Some(9), next_hop, packet };
     let with = [7, 2, 0x80, 0x01, 1, 9, 2, 0xAA, 0xBB];
-    let packet = [0xAA, 0xBB];
-    let expected = Request { index: 2, class: 128, neighbour: Some(9), packet: &packet };
     assert_eq!(read(&with), Call::Request(expected));
     let without = [7, 2, 0x80, 0x01, 0, 2, 0xAA, 0xBB];
     assert_eq!(read(&without), Call::Request(Request { neighbour: None, ..expected }));
@@ -172,23 +202,38 @@ fn request_records() {
     }
 }
 
+/// `record-hop`: the packet's destination, and :: under 40 bytes.
+#[test]
+fn the_next_hop_of_an_old_request() {
+    let packet: Vec<u8> = (0..=200).collect();
+    for length in 0..=200 {
+        let record = [&[7, 0, 0, 0][..], &wide(length as u64), &packet[..length]].concat();
+        let expected = if length < 40 { &UNSPECIFIED } else { &packet[24..40] };
+        let call = read(&record);
+        assert!(matches!(call, Call::Request(request) if request.next_hop == expected));
+    }
+}
+
 #[test]
 fn a_packet_length_beyond_the_end() {
     for length in [3, 128, 1_280, 1 << 32, 1 << 63, u64::MAX] {
         assert_broken(&[vec![6, 4, 3, 0], wide(length), vec![1, 2]].concat());
         assert_broken(&[vec![7, 0, 0, 0], wide(length), vec![1, 2]].concat());
+        assert_broken(&[vec![8, 0, 0, 0], vec![0; 16], wide(length), vec![1, 2]].concat());
     }
 }
 
 #[test]
 fn a_packet_above_1280_bytes_is_a_whole_record() {
-    let bytes = [vec![7, 0, 0, 0], wide(5_000), vec![1; 5_000]].concat();
-    assert!(matches!(read(&bytes), Call::Request(request) if request.packet.len() == 5_000));
+    for head in [vec![7, 0, 0, 0], [[8, 0, 0, 0].as_slice(), &[5; 16]].concat()] {
+        let bytes = [head, wide(5_000), vec![1; 5_000]].concat();
+        assert!(matches!(read(&bytes), Call::Request(request) if request.packet.len() == 5_000));
+    }
 }
 
 #[test]
-fn record_kinds_outside_1_to_7() {
-    for kind in [0, 8, 9, 127, 128, 257, 263, 1 << 32 | 3, u64::MAX] {
+fn record_kinds_outside_1_to_8() {
+    for kind in [0, 9, 10, 127, 128, 257, 263, 264, 1 << 32 | 8, u64::MAX] {
         assert_broken(&[wide(kind), vec![1; 60]].concat());
     }
 }

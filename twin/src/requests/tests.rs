@@ -26,8 +26,11 @@ fn packet(destination: Address) -> Vec<u8> {
     packet
 }
 
+/// By the mast 02:AB:00:00:00:C7.
+const MAST: Address = [0xFE, 0x80, 0, 0, 0, 0, 0, 0, 0, 0xAB, 0, 0xFF, 0xFE, 0, 0, 0xC7];
+
 fn request(index: u64, packet: &[u8]) -> Call<'_> {
-    Call::Request(Request { index, class: 200, neighbour: None, packet })
+    Call::Request(Request { index, class: 200, neighbour: None, next_hop: &MAST, packet })
 }
 
 fn day(calls: &[Call]) -> Vec<u8> {
@@ -43,7 +46,7 @@ fn printed(day: &[u8]) -> String {
 #[test]
 fn each_sort_of_destination() {
     let to_all = packet(TO_ALL);
-    let to_one = packet(link_local_address(0x02AB_0000_00C7));
+    let to_one = packet([0x21; 16]);
     let calls = [START, STOP, request(0, &to_all), request(2, &to_all), request(2, &to_one)];
     let expected = "\
 3 0 4 nothing 200 42
@@ -51,6 +54,16 @@ fn each_sort_of_destination() {
 5 0 1 02:AB:00:00:00:C7 200 42
 ";
     assert_eq!(printed(&day(&calls)), expected);
+}
+
+/// `record-hop`: by the packet's own destination, of 02:00:00:00:00:07.
+#[test]
+fn an_old_request() {
+    let to_one = packet(link_local_address(0x0200_0000_0007));
+    let record = [&[7, 2, 9, 0, 42], &to_one[..]].concat();
+    let day = [day(&[START, STOP, request(2, &to_one)]), record].concat();
+    let expected = "3 0 1 02:AB:00:00:00:C7 200 42\n4 0 1 02:00:00:00:00:07 9 42\n";
+    assert_eq!(printed(&day), expected);
 }
 
 #[test]
@@ -64,17 +77,20 @@ fn a_refused_request_sends_nothing_down() {
 fn a_broken_record_ends_it() {
     let to_all = packet(TO_ALL);
     let whole = day(&[START, request(0, &to_all)]);
-    let then_broken = [&whole[..], &[8], &day(&[request(0, &to_all)])].concat();
+    let then_broken = [&whole[..], &[9], &day(&[request(0, &to_all)])].concat();
     assert_eq!(printed(&then_broken), printed(&whole));
     assert_eq!(printed(&whole[..whole.len() - 1]), "");
     assert_eq!(printed(&[]), "");
 }
 
+const REQUESTS: [RecordKind; 2] =
+    [RecordKind::Known(kind::OLD_REQUEST), RecordKind::Known(kind::REQUEST)];
+
 /// Number, reply and length of the request records that a listing has.
 fn listed(day: &[u8]) -> Vec<(usize, u8, usize)> {
     let numbered = lines(day).into_iter().enumerate();
     numbered
-        .filter(|(_, line)| line.kind == RecordKind::Known(kind::REQUEST))
+        .filter(|(_, line)| REQUESTS.contains(&line.kind))
         .filter(|(_, line)| line.answer.reply != Refusal::RecordBroken.number())
         .map(|(place, line)| (place + 1, line.answer.reply, line.answer.length))
         .collect()

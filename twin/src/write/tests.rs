@@ -1,5 +1,6 @@
 use super::*;
 use crate::call::{GEO_ANYCAST, GEO_BROADCAST, GEO_UNICAST, TSB};
+use crate::packet::UNSPECIFIED;
 use crate::prefix::NO_PREFIX;
 use crate::read::read_record;
 use crate::table::{StartSettings, StopSettings};
@@ -17,6 +18,9 @@ const UNICAST: Indication<'static> = Indication {
     destination: Destination::Mid(3),
     packet: &[4, 5],
 };
+
+const REQUEST: Request<'static> =
+    Request { index: 2, class: 0, neighbour: None, next_hop: &[0x85; 16], packet: &[1, 2] };
 
 fn to_area(transport: u64, area: Area) -> Indication<'static> {
     Indication { transport, destination: Destination::Area(area), ..UNICAST }
@@ -68,8 +72,9 @@ fn calls_read_back_also_with_values_out_of_range_and_the_retired_kind() {
         Call::Indication(to_area(GEO_ANYCAST, AREA)),
         Call::Indication(to_area(GEO_BROADCAST, outside)),
         Call::Indication(Indication { source: u64::MAX, packet: &[], ..tsb() }),
-        Call::Request(Request { index: u64::MAX, class: 255, neighbour: None, packet: &[] }),
-        Call::Request(Request { index: 2, class: 0, neighbour: Some(u64::MAX), packet: &[1] }),
+        Call::Request(REQUEST),
+        Call::Request(Request { index: u64::MAX, class: 255, packet: &[], ..REQUEST }),
+        Call::Request(Request { neighbour: Some(u64::MAX), next_hop: &UNSPECIFIED, ..REQUEST }),
     ] {
         assert_reads_back(call);
     }
@@ -150,9 +155,38 @@ fn no_form_for_a_destination_of_the_wrong_sort() {
     }
 }
 
+/// `record-request`, as kind 8 alone (`record-hop`).
+#[test]
+fn the_records_of_a_request() {
+    let without = [&[8, 2, 0, 0], &[0x85; 16][..], &[2, 1, 2]].concat();
+    assert_eq!(record_bytes(&Call::Request(REQUEST)).unwrap(), without);
+    let request = Request { neighbour: Some(9), ..REQUEST };
+    let with = [&[8, 2, 0, 1, 9], &[0x85; 16][..], &[2, 1, 2]].concat();
+    assert_eq!(record_bytes(&Call::Request(request)).unwrap(), with);
+}
+
+#[test]
+fn a_request_that_was_read_as_kind_7_is_written_as_kind_8() {
+    let packet: Vec<u8> = (0..40).collect();
+    let old = [&[7, 2, 0, 0, 40], &packet[..]].concat();
+    let (call, _) = read_record(&old, 0).unwrap();
+    let expected = [&[8, 2, 0, 0], &packet[24..40], &[40], &packet[..]].concat();
+    assert_eq!(record_bytes(&call).unwrap(), expected);
+    assert_reads_back(call);
+}
+
+#[test]
+fn no_form_for_a_next_hop_that_is_not_16_bytes_long() {
+    let run = [0x20; 40];
+    for length in (0..=40).filter(|&length| length != 16) {
+        assert_no_form(Call::Request(Request { next_hop: &run[..length], ..REQUEST }));
+    }
+}
+
 #[test]
 fn without_room_nothing_is_written() {
-    for call in [Call::Indication(to_area(GEO_BROADCAST, AREA)), Call::Enable(STOP)] {
+    let broadcast = Call::Indication(to_area(GEO_BROADCAST, AREA));
+    for call in [broadcast, Call::Enable(STOP), Call::Request(REQUEST)] {
         let record = record_bytes(&call).unwrap();
         for room in 0..record.len() {
             let mut buffer = vec![0xEE; room];

@@ -24,8 +24,9 @@ not-same a b h = go (same a b) refl
 
 pub good-hops : GoodHops
 unfolding goodHop multicast
-good-hops a =
-    (λ g.
-    let h = simp and-eq-true-iff at g in
-    (eqb-true _ _ (h .0 .0 .0), differs a (zerosThen 0) (h .0 .0 .1), differs a (zerosThen 1) (h .0 .1), eqb-false _ _ (not-true (eqb (getD a 0 0) 0xff) (h .1))),
-    λ h. rw (eq-eqb (length a) 16 (h .0), not-same a (zerosThen 0) (h .1), not-same a (zerosThen 1) (h .2), ne-eqb (getD a 0 0) 0xff (h .3)))
+good-hops a = (
+  λ g.
+      let h = simp and-eq-true-iff at g in
+      (eqb-true _ _ (h .0 .0 .0), differs a (zerosThen 0) (h .0 .0 .1), differs a (zerosThen 1) (h .0 .1), eqb-false _ _ (not-true (eqb (getD a 0 0) 0xff) (h .1))),
+  λ h. rw (eq-eqb (length a) 16 (h .0), not-same a (zerosThen 0) (h .1), not-same a (zerosThen 1) (h .2), ne-eqb (getD a 0 0) 0xff (h .3)),
+)
