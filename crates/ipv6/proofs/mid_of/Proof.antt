@@ -1,5 +1,5 @@
 -- `ipv6::mid_of` meets its contract.
-use mathlib.Core.Path.{sym, _∙_}
+use mathlib.Core.Path.{sym}
 use borrow.Author.Tests.{not-true, not-false}
 use borrow.Author.Needs.{needs}
 use Rattle.ipv6.proofs.Laws.Identifier.{mid-bytes, from, no-address, without-ff-fe, many-without-mid, with-ff-fe}
