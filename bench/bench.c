@@ -124,14 +124,16 @@ static struct day new_day(u64 first, u64 stops) {
 // What is appended to a day many times over: a record, or a few that belong together.
 enum work {
     AREA, OTHERWISE, PREFIX, SOURCE, TSB, REFUSED, SHORT, VERSION, LENGTH_FIELD,
-    UNICAST, OLD_UNICAST, MULTICAST, GROUP_TVL, NO_HOP, GROUP_HOP,
+    UNICAST, OLD_UNICAST, MULTICAST, GROUP_TVL, NO_HOP, GROUP_HOP, GIVEN, GIVEN_LOOPBACK,
     FIXED, AGAIN, OWN_MID, DGVL_AREA, RETIRED, IN_AND_OUT
 };
 
-// Next hops: one that gives a MID, one that would if it were not multicast, and ::, which the multicast packets have, because there
-// none is asked.
+// Next hops: one that gives a MID, one that would if it were not multicast, one that gives none, ::1, and ::, which the multicast
+// packets have, because there none is asked.
 static const u8 mast[16] = { 0xfe, 0x80, [11] = 0xff, [12] = 0xfe, [15] = 3 };
 static const u8 group[16] = { 0xff, 0x02, [11] = 0xff, [12] = 0xfe, [15] = 3 };
+static const u8 internet[16] = { 0x20, 0x01, 0x0d, 0xb8, [15] = 1 };
+static const u8 loopback[16] = { [15] = 1 };
 static const u8 unspecified[16];
 
 static void put_work(struct day *d, enum work w, u64 stop, usize length) {
@@ -147,10 +149,12 @@ static void put_work(struct day *d, enum work w, u64 stop, usize length) {
     case AREA: case OTHERWISE: put_indication(d, 3, stop, w == OTHERWISE, p, length); break;
     case PREFIX: case SOURCE: case REFUSED: case SHORT: case VERSION: case LENGTH_FIELD: put_indication(d, 1, 0, false, p, length); break;
     case TSB: put_indication(d, 4, 0, false, p, length); break;
-    case UNICAST: put_request(d, stop + 2, mast, p, length); break;
-    case GROUP_HOP: put_request(d, stop + 2, group, p, length); break;
-    case NO_HOP: case MULTICAST: put_request(d, stop + 2, unspecified, p, length); break;
-    case GROUP_TVL: put_request(d, 0, unspecified, p, length); break;
+    case UNICAST: put_request(d, stop + 2, 0, mast, p, length); break;
+    case GROUP_HOP: put_request(d, stop + 2, 0, group, p, length); break;
+    case GIVEN: put_request(d, GIVEN_STOP + 2, 0x020000000005, internet, p, length); break;
+    case GIVEN_LOOPBACK: put_request(d, GIVEN_STOP + 2, 0x020000000005, loopback, p, length); break;
+    case NO_HOP: case MULTICAST: put_request(d, stop + 2, 0, unspecified, p, length); break;
+    case GROUP_TVL: put_request(d, 0, 0, unspecified, p, length); break;
     case OLD_UNICAST: put_old_request(d, stop + 2, p, length); break;
     case FIXED: put(d, 3), put(d, 0); break;
     case AGAIN: put_start(d, 65); break;
@@ -213,11 +217,13 @@ static void print_indications(void) {
 static void print_requests_and_reading(void) {
     print_row("request, unicast by the next hop's MID, on the last of 64", one(UNICAST, 64, 63, 40));
     print_row("old request (kind 7), unicast on the last of 64", one(OLD_UNICAST, 64, 63, 40));
+    print_row("request, unicast to the MID given, on the second of 64", one(GIVEN, 64, GIVEN_STOP, 40));
     print_row("request, multicast on the last of 64", one(MULTICAST, 64, 63, 40));
     print_row("request, multicast on the topological link", one(GROUP_TVL, 64, 0, 40));
     print_row("request refused: no such link, 0 enabled", one(UNICAST, 0, 63, 40));
     print_row("request refused: next hop ::", one(NO_HOP, 64, 63, 40));
     print_row("request refused: next hop multicast", one(GROUP_HOP, 64, 63, 40));
+    print_row("request refused: next hop ::1, MID given", one(GIVEN_LOOPBACK, 64, GIVEN_STOP, 40));
     print_row("reading: indication by area before the start (16)", unread(3, 40));
     print_row("reading: indication by prefix before the start (16)", unread(1, 40));
     print_row("reading: second start (16)", one(AGAIN, 64, 0, 40));

@@ -28,6 +28,9 @@ enum { ROOM = 1294, NUMBERS = 4 * 2048 };
 // The first of the stops that stand on one latitude.
 enum { ROW = 2000 };
 
+// The stop whose requests take the MID that is given.
+enum { GIVEN_STOP = 1 };
+
 // A day file as it is made (make.c).
 struct day { u8 *bytes; usize length; };
 
@@ -39,6 +42,6 @@ void put_start(struct day *d, u64 max);
 enum { ETHERNET = 1, NBMA = 2 }; // kinds of an interface, of which the second is retired
 void put_enable(struct day *d, u64 stop, u64 kind);
 void put_indication(struct day *d, u64 transport, u64 area, bool otherwise, const u8 *packet, usize length);
-void put_request(struct day *d, u64 index, const u8 *hop, const u8 *packet, usize length);
+void put_request(struct day *d, u64 index, u64 mid, const u8 *hop, const u8 *packet, usize length);
 void put_old_request(struct day *d, u64 index, const u8 *packet, usize length); // as before there were next hops
 void make_packet(u8 *packet, usize length, u64 from_stop, u64 to_stop);
