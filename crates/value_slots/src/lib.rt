@@ -2,50 +2,17 @@
 // asked of the one loop in `find`.
 pub mod index;
 
-use area::Area;
 use links::Chosen;
 use links::LinkIndex;
 use links::Slot;
 use links::Table;
-use prefix::Prefix;
+use search::Found;
+use search::Wanted;
 ghost use mathlib.Core.Path.{_≡_};
 ghost use Prim.Native.Nat.{_-_, _≤_, min};
 ghost use Rattle.links.specs.Slots.{indexAt, counted, slotAt};
-ghost use Rattle.value_slots.specs.Search.{passes, asked, fits, found, slotPlace, placeIn, slotFrom};
-
-// Which slot is looked for, with what the question asks for. What holds an address is what overlaps the prefix of that address
-// alone.
-pub enum Wanted {
-    Unused,
-    SameGround(Area),
-    Overlapping(Prefix),
-}
-
-// The question with the normal form of its area. It is found here, once, and not for every slot.
-fn as_asked(wanted: Wanted) -> Wanted
-    ensures { λ r. ⌜ r ≡ asked wanted ⌝ }
-{
-    match wanted {
-        Wanted::Unused => Wanted::Unused,
-        Wanted::SameGround(a) => {
-            let n = area::normal(a);
-            Wanted::SameGround(n)
-        }
-        Wanted::Overlapping(p) => Wanted::Overlapping(p),
-    }
-}
-
-fn is_wanted(x: Slot, asked: Wanted) -> bool
-    ensures { λ r. ⌜ r ≡ fits asked x ⌝ }
-{
-    let r = x.settings;
-    let on = x.enabled;
-    match asked {
-        Wanted::Unused => !on,
-        Wanted::SameGround(n) => on && area::has_normal(r.area, n),
-        Wanted::Overlapping(p) => on && prefix::overlaps(r.prefix, p),
-    }
-}
+ghost use Rattle.search.specs.Search.{passes};
+ghost use Rattle.value_slots.specs.Search.{found, slotPlace, placeIn, slotFrom};
 
 // How many slots count.
 fn slot_count(max: usize) -> usize
@@ -79,24 +46,16 @@ fn index_of(place: usize) -> LinkIndex
     LinkIndex(place + LinkIndex::FIRST_STOP.0)
 }
 
-// What the search finds: whether a slot is wanted, the place of the first, and its link. Where there is none, the number of slots that
-// count, and the dynamic link.
-pub struct Found {
-    pub any: bool,
-    pub place: usize,
-    pub link: Chosen,
-}
-
 // The one loop. All that is asked of the slot comes with it, because each function that reads a slot of its table copies the table.
 pub fn find(t: Table, wanted: Wanted) -> Found
     ensures { λ r. ⌜ r ≡ found t (passes wanted) ⌝ }
 {
-    let question = as_asked(wanted);
+    let question = search::as_asked(wanted);
     let n = slot_count(t.max);
     let mut i: usize = 0;
     while i < n {
         let x = t.slots[i];
-        if is_wanted(x, question) {
+        if search::is_wanted(x, question) {
             let r = x.settings;
             let interface = r.interface;
             let link = Chosen {

@@ -5,7 +5,7 @@ use links::PerhapsLink;
 use links::Settings;
 use links::Slot;
 use links::Table;
-use value_slots::Wanted;
+use search::Wanted;
 ghost use mathlib.Core.Path.{_≡_};
 ghost use Rattle.value_table.specs.Changes.{unchangedBy, slotChange, enableChange, disableChange, ownChange};
 

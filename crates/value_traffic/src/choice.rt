@@ -2,10 +2,10 @@
 use links::Chosen;
 use links::LinkIndex;
 use links::Table;
+use search::Found;
+use search::Wanted;
 use traffic::Destination;
 use traffic::IndicationHead;
-use value_slots::Found;
-use value_slots::Wanted;
 ghost use mathlib.Core.Path.{_≡_};
 ghost use mathlib.Core.Bool.{_||_};
 ghost use lib.Dec.{eqb};

@@ -6,12 +6,15 @@ use lib.ListN.{length}
 use borrow.Author.Needs.{needs}
 use Rattle.octets.proofs.Laws.Runs.{length-mapped}
 use Rattle.links.specs.declared.Slot.{Slot}
-use Rattle.links.specs.Slots.{free, counted, place}
+use Rattle.links.specs.Slots.{dgvlIndex, free, counted, place}
+use Rattle.links.specs.Index.{interfaceAt, chosen}
 use Rattle.links.proofs.Laws.Counted.{counted-length, counted-at, any-default}
 use Rattle.links.proofs.Laws.Search.{Looking, start, hit, pass, end}
-use Rattle.value_slots.specs.declared.Found.{Found}
-use Rattle.value_slots.specs.Search.{passes, fits, found}
-use Rattle.value_slots.proofs.Laws.Found.{found-at, found-none, asks-the-ground}
+use Rattle.search.specs.declared.Found.{Found}
+use Rattle.search.specs.Search.{passes, fits}
+use Rattle.search.proofs.Laws.Asked.{asks-the-ground}
+use Rattle.search.proofs.Laws.Found.{found-at, found-none}
+use Rattle.value_slots.specs.Search.{found}
 use Rattle.value_slots.proofs.find.Statement.{statement}
 use Rattle.value_slots.proofs.find.Tie as tie
 
@@ -55,7 +58,7 @@ returns c =
     let here : l .i ≡ place q (counted t) =
     hit q (counted t) (l .inv) _ (c .before .before .before .before .before .before .loop-test .taken)
     (ap q (counted-at t (l .i) _ within) ∙ sym (c .before .before .before .before .is-wanted .ensures) ∙ c .before .before .before .if1 .taken) in
-    for-wanted asked _ (found-at t q (l .i) _ here within (c .index-of .ensures)
+    for-wanted asked _ (found-at (counted t) q (chosen t dgvlIndex) (l .i) _ here within (c .index-of .ensures)
     (ap kind-of (any-default (t .slots) (l .i) _ free (omega (arith, all (asked .before), c .before .before .before .before .before .before .before .before .slot-count .ensures)) ∙ sym (counted-at t (l .i) free within))))
 
 add-i : tie.Need-add-i Inv-loop μ-loop
@@ -74,13 +77,14 @@ loop-again c =
     (ap q (counted-at t (l .i) _ (omega arith)) ∙ sym (c .before .is-wanted .ensures) ∙ c .if1 .left)
 
 returns-2 : tie.Need-returns-2 Inv-loop μ-loop
+unfolding interfaceAt
 returns-2 c =
     let asked = c .before .before .before .before in
     let t = asked .before .args .t1 in
     let l = c .before .before .loop in
     let q = fits (asked .as-asked .result) in
     let past = end q (counted t) (l .inv) free (c .before .loop-test .left) in
-    for-wanted asked _ (found-none t q (l .i) past (omega (arith, l .inv .count, c .before .loop-test .left)))
+    for-wanted asked _ (found-none (counted t) q (chosen t dgvlIndex) (l .i) past (omega (arith, l .inv .count, c .before .loop-test .left)))
 
 pub find-spec : {M : Type 1} → statement M
 find-spec =

@@ -12,9 +12,11 @@ use Rattle.links.specs.Slots.{dgvlIndex, counted, any, with}
 use Rattle.links.specs.Index.{chosen}
 use Rattle.links.proofs.Laws.Settings.{reaches-as-overlap}
 use Rattle.traffic.proofs.Laws.Choice.{IndexOr}
-use Rattle.value_slots.specs.declared.Found.{Found}
-use Rattle.value_slots.specs.declared.Wanted.the-variants.{Overlapping}
-use Rattle.value_slots.specs.Search.{passes, found}
+use Rattle.search.specs.declared.Found.{Found}
+use Rattle.search.specs.declared.Wanted.the-variants.{Overlapping}
+use Rattle.search.specs.Search.{passes}
+use Rattle.value_slots.specs.Search.{found}
+use Rattle.value_slots.proofs.Laws.Found.{found-link}
 
 module _ (t : Table) (a : List ℕ) (bytes : Below 256 a) where
   same-question : _≡_ {A = Settings → Bool} (λ s. overlap (s .prefix) (ofAddress a)) (λ s. reaches s a)
@@ -24,4 +26,4 @@ module _ (t : Table) (a : List ℕ) (bytes : Below 256 a) where
   reached-any f e = ap (λ (g : Found). g .any) e ∙ ap (λ (q : Settings → Bool). any (with q) (counted t)) same-question
 
   pub reached-link : (f : Found) → f ≡ found t (passes (Overlapping (ofAddress a))) → f .link ≡ chosen t (IndexOr (λ s. reaches s a) (counted t) dgvlIndex)
-  reached-link f e = ap (λ (g : Found). g .link) e ∙ ap (λ (q : Settings → Bool). chosen t (IndexOr q (counted t) dgvlIndex)) same-question
+  reached-link f e = ap (λ (g : Found). g .link) e ∙ found-link t (passes (Overlapping (ofAddress a))) ∙ ap (λ (q : Settings → Bool). chosen t (IndexOr q (counted t) dgvlIndex)) same-question

@@ -9,7 +9,7 @@ use Rattle.links.specs.Settings.{sameGround, overlaps}
 use Rattle.links.specs.Slots.{indexAt, counted, any, place, unused, with}
 use Rattle.links.specs.Calls.{enable, rules, slotRules}
 use Rattle.links.proofs.Laws.Replies.{by-settings, by-slots}
-use Rattle.value_slots.specs.declared.Found.{Found}
+use Rattle.search.specs.declared.Found.{Found}
 use Rattle.value_table.specs.Changes.{enableChange}
 use Rattle.value_table.proofs.Laws.Changes.{change-refused, change-done}
 use Rattle.value_table.proofs.changes.enable.Statement.{statement}

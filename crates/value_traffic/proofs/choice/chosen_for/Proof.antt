@@ -17,9 +17,11 @@ use Rattle.links.specs.Index.{chosen}
 use Rattle.links.proofs.Laws.Kinds.{topological-kind, dynamic-kind, chosen-is}
 use Rattle.traffic.specs.Arrives.{indication, isArea, linkIndex, chosenFor}
 use Rattle.traffic.proofs.Laws.Choice.{IndexOr, choose-topological, choose-other, index-unicast, index-area, index-no-area, index-kept, index-failing, chosen-by-index}
-use Rattle.value_slots.specs.declared.Found.{Found}
-use Rattle.value_slots.specs.declared.Wanted.the-variants.{Overlapping}
-use Rattle.value_slots.specs.Search.{passes, found}
+use Rattle.search.specs.declared.Found.{Found}
+use Rattle.search.specs.declared.Wanted.the-variants.{Overlapping}
+use Rattle.search.specs.Search.{passes}
+use Rattle.value_slots.specs.Search.{found}
+use Rattle.value_slots.proofs.Laws.Found.{found-link}
 use Rattle.value_traffic.proofs.Laws.Reached.{reached-any, reached-link}
 use Rattle.value_traffic.proofs.choice.chosen_for.Statement.{statement}
 use Rattle.value_traffic.proofs.choice.chosen_for.Tie as tie
@@ -86,6 +88,7 @@ returns-5 c =
     let asked = by-area (c .before .before .before .before .before .before) ∙ not-false _ (c .before .before .before .before .before .if4 .left) in
     c .link-in3 .ensures
     ∙ ap (λ (f : Found). f .link) (c .before .find3 .ensures)
+    ∙ found-link (args .t) _
     ∙ ap (chosen (args .t)) (sym (index-area l x asked ∙ rw (c .before .before .before .d .given .1)))
     ∙ chosen-by-index (args .t) x
 

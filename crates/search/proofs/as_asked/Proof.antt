@@ -1,10 +1,10 @@
--- `value_slots::as_asked` meets its contract.
+-- `search::as_asked` meets its contract.
 use mathlib.Core.Path.{sym, _∙_, ap}
 use borrow.Author.Needs.{needs}
-use Rattle.value_slots.specs.declared.Wanted.the-variants.{SameGround}
-use Rattle.value_slots.specs.Search.{asked}
-use Rattle.value_slots.proofs.as_asked.Statement.{statement}
-use Rattle.value_slots.proofs.as_asked.Tie as tie
+use Rattle.search.specs.declared.Wanted.the-variants.{SameGround}
+use Rattle.search.specs.Search.{asked}
+use Rattle.search.proofs.as_asked.Statement.{statement}
+use Rattle.search.proofs.as_asked.Tie as tie
 
 returns-2 : tie.Need-returns-2
 returns-2 c = ap SameGround (c .normal .ensures) ∙ sym (ap asked (c .before .before .wanted .given .1))

@@ -1,7 +1,7 @@
--- `value_slots::is_wanted` meets its contract.
+-- `search::is_wanted` meets its contract.
 use borrow.Author.Needs.{needs}
-use Rattle.value_slots.proofs.is_wanted.Statement.{statement}
-use Rattle.value_slots.proofs.is_wanted.Tie as tie
+use Rattle.search.proofs.is_wanted.Statement.{statement}
+use Rattle.search.proofs.is_wanted.Tie as tie
 
 returns-2 : tie.Need-returns-2
 returns-2 c = rw (c .before .before .before .asked .given .1, c .before .if1 .taken, c .has-normal .ensures)
