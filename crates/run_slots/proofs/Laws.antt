@@ -1,4 +1,5 @@
--- What walks by hand over a lent run share. None of it says anything of this crate but how many bytes a record takes (Near).
+-- What walks by hand over a lent run share: of these only Near says something of a record, how many bytes it takes. Finds and Clears are
+-- what this crate's two loops keep.
 pub mod Near
 pub mod Past
 pub mod Tests
@@ -7,3 +8,4 @@ pub mod Shared
 pub mod Again
 pub mod Local
 pub mod Walk
+pub mod Finds

@@ -20,3 +20,6 @@ stays-in l = omega (arith, l)
 
 pub from-none : (n : ℕ) → 0 ≤ n
 from-none n = omega arith
+
+pub small : {n i : ℕ} → n * size < 2 ^ 63 → i < n → i < 2 ^ 63
+small h l = omega (arith, h, l)

@@ -1,0 +1,62 @@
+-- What the loop of `find` keeps, and what it answers at each of its ends.
+use Prim.Native.Nat.{ℕ, _+_, _≤_, _<_, min}
+use native.Mathlib.Omega.{arith}
+use mathlib.Core.Path.{_≡_, refl, sym, _∙_, ap}
+use mathlib.Core.Bool.{Bool, true, false, not}
+use mathlib.Core.List.{List}
+use lib.Dec.{T}
+use lib.ListN.{length, getD, take, length-take}
+use lib.Seq.{getD-take}
+use Rattle.links.specs.declared.Chosen.{Chosen}
+use Rattle.links.specs.declared.Slot.{Slot}
+use Rattle.links.specs.Slots.{free, place}
+use Rattle.links.proofs.Laws.Search.{Looking, start, hit, pass, end}
+use Rattle.search.specs.Search.{linkOf, foundIn}
+use Rattle.search.proofs.Laws.Found.{found-at, found-none}
+use Rattle.run_slots.specs.Run.{foundAt, foundNone}
+
+is-true : (b : Bool) → T b → b ≡ true
+is-true true h = refl
+is-true false h = absurd h
+
+is-false : (b : Bool) → T (not b) → b ≡ false
+is-false true h = absurd h
+is-false false h = refl
+
+pub no-more-than : (count len : ℕ) {n : ℕ} → n ≡ min count len → n ≤ len
+no-more-than count len e = omega (arith, e)
+
+module _ (count : ℕ) (ys : List Slot) (q : Slot → Bool) where
+  -- none of the first i of the n records that count passes
+  pub Behind : ℕ → ℕ → Type 0
+  Behind n i = Looking q (take count ys) n i
+
+  pub began : {n : ℕ} → n ≡ min count (length ys) → Behind n 0
+  unfolding Behind
+  began e = start q (take count ys) (e ∙ sym (length-take count ys))
+
+  module _ {n i : ℕ} (b : Behind n i) where
+    within : i < n → i < length (take count ys)
+    unfolding Behind
+    within h = omega (arith, h, b .count)
+
+    -- a record that counts is read from the whole run
+    counts : i < n → getD (take count ys) i free ≡ getD ys i free
+    counts h = getD-take count ys i free (let l : i < min count (length ys) = rw (← length-take count ys) (within h) in omega (arith, l))
+
+    tested : (r : Bool) → i < n → r ≡ q (getD ys i free) → q (getD (take count ys) i free) ≡ r
+    tested r h e = ap q (counts h) ∙ sym e
+
+    pub passed : {r : Bool} → i < n → r ≡ q (getD ys i free) → T (not r) → Behind n (i + 1)
+    unfolding Behind
+    passed {r} h e f = pass q (take count ys) b free h (tested r h e ∙ is-false r f)
+
+    pub at-one : (otherwise : Chosen) {r : Bool} → i < n → r ≡ q (getD ys i free) → T r → foundAt i (getD ys i free) ≡ foundIn (take count ys) q otherwise
+    unfolding Behind
+    at-one otherwise {r} h e f =
+        found-at (take count ys) q otherwise i (linkOf i (getD ys i free)) (hit q (take count ys) b free h (tested r h e ∙ is-true r f)) (within h) refl
+        (ap (λ (x : Slot). x .settings .interface .kind) (sym (counts h)))
+
+    pub at-none : (otherwise : Chosen) → n ≤ i → foundNone i otherwise ≡ foundIn (take count ys) q otherwise
+    unfolding Behind
+    at-none otherwise h = found-none (take count ys) q otherwise i (end q (take count ys) b free h) (omega (arith, h, b .count))
