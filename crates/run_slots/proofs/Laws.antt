@@ -9,3 +9,4 @@ pub mod Again
 pub mod Local
 pub mod Walk
 pub mod Finds
+pub mod Clears
