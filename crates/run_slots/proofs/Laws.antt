@@ -3,6 +3,7 @@
 pub mod Near
 pub mod Past
 pub mod Tests
+pub mod Frees
 pub mod Called
 pub mod Shared
 pub mod Again

@@ -5,10 +5,11 @@ use Prim.Native.Nat.{min}
 use lib.Dec.{lit<, ltb→lt, nltb→le}
 use lib.ListN.{length-set}
 use lib.WfN.{Nat·lt-wfRel}
-use Rattle.run_slots.proofs.Laws.Walk.{_≡_, refl, sym, _∙_, ap, subst, ℕ, _+_, _-_, _≤_, _<_, _^_, List, [], _∷_, length, set, URA, fullShare, Ty, named, mut, w64, tyInt, tyBool, tyUnit, tyPtr, tyRef, Val, vint, vptr, vunit, SProp, ent, emp, via, fst∗, id⊢, Lft, GName, Share, ftrue, fat, froom, fdies, flft, fobs, fauth, fobor, fbor, Memory, Routine, Heap, Env, Calls, Loops, WpFn, Tables, afterTurn, Atoms, sem, Fun, givenOf, tables, tablesOf, Given, Item, Sq, runs, atRet, ‵, raw, _⊛_, ⋆, _$_, _∵_, !, qed, by, move, keep, drop, use1, split, join, rewrite, fsplit, fjoin, feqI, suffices, frame, done, whole, sub, look-in, look, init, store, store-raw, forget, stop, hop, fld, from, load, lit, unit-lit, of-opd, and-then, no-more, bin, assigns, assigns-last, land, first, blocks, loops, again, exec, returns, enter, alloc1, alloc0, params1, pass1, pass0, free1, free0, fmOf, WpFn-mono, owns, pureI, Is, shows, uint-vals, uint-tells, uint-makes, uint-lawful, usize, RefT, pointee, sliceTy, sliceVal, MutSlice, Room, at-slice, heres, codedHoleys, slice-vals, mut-slice-tells, Held, row, place-is, elem-out, elem-put, opens-slice, closes-slice, plain, nothing, owned, Contract, Triple, calls-at, Vals, onEntry, tripleOf, entered, cited, says, Stays, stay-slice, stay-none, walkOf, ends-at, walked, goes-slice, goes-none, walk-meets, yes}
+use Rattle.run_slots.proofs.Laws.Walk.{_≡_, refl, sym, _∙_, ap, subst, ℕ, _+_, _-_, _≤_, _<_, _^_, List, [], _∷_, length, set, URA, fullShare, Ty, named, mut, w64, tyInt, tyBool, tyUnit, tyPtr, tyRef, Val, vint, vptr, vunit, SProp, ent, emp, via, fst∗, id⊢, Lft, GName, Share, ftrue, fat, froom, fdies, flft, fobs, fauth, fobor, fbor, Memory, Routine, Heap, Env, Calls, Loops, WpFn, Tables, afterTurn, Atoms, sem, Fun, givenOf, tables, tablesOf, Given, Item, Sq, runs, atRet, ‵, raw, _⊛_, ⋆, _$_, _∵_, !, qed, by, move, keep, drop, use1, split, join, rewrite, fsplit, fjoin, feqI, suffices, frame, done, whole, sub, look-in, look, init, store, store-raw, forget, stop, hop, fld, from, load, lit, unit-lit, of-opd, and-then, no-more, bin, assigns, assigns-last, land, first, blocks, loops, again, exec, returns, enter, alloc1, alloc0, params1, pass1, pass0, fmOf, WpFn-mono, owns, pureI, Is, shows, uint-vals, uint-tells, uint-makes, uint-lawful, usize, RefT, pointee, sliceTy, sliceVal, MutSlice, Room, at-slice, heres, codedHoleys, slice-vals, mut-slice-tells, Held, row, place-is, elem-out, elem-put, opens-slice, closes-slice, plain, nothing, owned, Contract, Triple, calls-at, Vals, onEntry, tripleOf, entered, cited, says, Stays, stay-slice, stay-none, walkOf, ends-at, walked, goes-slice, goes-none, walk-meets, yes}
 use Rattle.run_slots.proofs.Laws.Called.{value-back}
 use Rattle.run_slots.proofs.Laws.Clears.{none-yet, one-more, all-done}
 use Rattle.run_slots.proofs.Laws.Finds.{no-more-than}
+use Rattle.run_slots.proofs.Laws.Frees.{frees-all}
 use Rattle.run_slots.proofs.Laws.Near.{size, near, next, falls, stays-in, from-none}
 use Rattle.run_slots.proofs.Laws.Tests.{tests}
 use denote.Struct.Laws as LL
@@ -134,7 +135,7 @@ module _ {M : Type 1} (𝓤 : URA M) (H : Heap 𝓤) (A : Atoms 𝓤) (W : Given
           closes-slice ! tt T.the-row ys (t .l) (t .same) b o $
           -- [obs; the borrow; the token; true; run's fact; count's; _9; …]
           assigns ! (of-opd ! (unit-lit !)) (from ! (stop !)) (init ! 24 refl (tt, tt)) $ returns ! (look ! 24 refl) $ forget ! 10 refl $ forget ! 12 refl $ forget ! 14 refl $ forget ! 16 refl $ forget ! 18 refl $ forget ! 20 refl $ forget ! 22 refl $ forget ! 24 refl $
-          move ! (24 ∷ 25 ∷ []) $ free1 ! $ move ! (22 ∷ 23 ∷ []) $ free1 ! $ move ! (20 ∷ 21 ∷ []) $ free1 ! $ move ! (18 ∷ 19 ∷ []) $ free1 ! $ move ! (16 ∷ 17 ∷ []) $ free1 ! $ move ! (14 ∷ 15 ∷ []) $ free1 ! $ move ! (12 ∷ 13 ∷ []) $ free1 ! $ move ! (10 ∷ 11 ∷ []) $ free1 ! $ move ! (8 ∷ 9 ∷ []) $ free1 ! $ move ! (6 ∷ 7 ∷ []) $ free1 ! $ free0 ! $
+          frees-all ! 6 refl $
           keep ! (0 ∷ 1 ∷ 2 ∷ 3 ∷ 5 ∷ []) $ by ! (exits (t .l) (all-done ys (t .l) count n (t .i) (t .is) en (t .most) (nltb→le (t .i) n failed)) (t .same)))) t₀
 
     walk : (𝓣 : Tables 𝓤 H) → Triple 𝓤 (𝓣 .C blank-slot-def.name) BlankSlot → Triple 𝓤 (𝓣 .C within-def.name) Within → ent 𝓤 (onEntry 𝓤 H A clear.signature (κ, tt) (q, tt) x at) (WpFn 𝓤 H (𝓣 .C) (𝓣 .Λ) code.function (sliceVal (b, o) (length ys) ∷ vint w64 count ∷ []) Post)

@@ -10,9 +10,10 @@ use mir.Val.{vbool}
 use types.Run.{returns-within}
 use types.Share.{arr-parts}
 use denote.Plain.{bool-tells, bool-lawful}
-use Rattle.run_slots.proofs.Laws.Walk.{_≡_, refl, sym, _∙_, ap, ℕ, _+_, _-_, _≤_, _<_, _^_, List, [], _∷_, length, getD, take, URA, fullShare, Ty, named, imm, w64, tyInt, tyBool, tyPtr, tyRef, Val, vint, vptr, SProp, ent, emp, via, fst∗, id⊢, Lft, GName, Share, ftrue, fat, froom, fdies, flft, fres, fobor, fshr-bor, Memory, Routine, Heap, Env, Calls, Loops, WpFn, Tables, Atoms, sem, Fun, givenOf, tables, tablesOf, afterTurn, Given, Item, Sq, runs, atRet, ‵, raw, _⊛_, ⋆, _$_, _∵_, !, qed, by, move, keep, drop, use1, split, join, rewrite, fsplit, fjoin, suffices, frame, done, whole, sub, look-in, look, look-raw, init, store, forget, stop, hop, fld, from, load, lit, of-opd, and-then, no-more, bin, assigns, assigns-last, land, first, blocks, loops, again, exec, returns, enter, alloc1, alloc0, params1, pass1, pass0, free1, free0, fmOf, WpFn-mono, owns, Is, shows, uint-vals, uint-tells, uint-makes, uint-lawful, usize, RefT, shares, pointee, sliceTy, sliceVal, ShrSlice, Room, at-slice, heres, codedHoleys, slice-vals, shr-slice-tells, row, place-is, elem-out, elem-back, looks-slice, shuts-slice, plain, nothing, owned, Contract, Triple, calls-at, Vals, onEntry, tripleOf, entered, cited, says, Stays, stay-none, stay-none-slice, walkOf, ends-at, walked, goes-none, goes-none-slice, walk-meets, yes}
+use Rattle.run_slots.proofs.Laws.Walk.{_≡_, refl, sym, _∙_, ap, ℕ, _+_, _-_, _≤_, _<_, _^_, List, [], _∷_, length, getD, take, URA, fullShare, Ty, named, imm, w64, tyInt, tyBool, tyPtr, tyRef, Val, vint, vptr, SProp, ent, emp, via, fst∗, id⊢, Lft, GName, Share, ftrue, fat, froom, fdies, flft, fres, fobor, fshr-bor, Memory, Routine, Heap, Env, Calls, Loops, WpFn, Tables, Atoms, sem, Fun, givenOf, tables, tablesOf, afterTurn, Given, Item, Sq, runs, atRet, ‵, raw, _⊛_, ⋆, _$_, _∵_, !, qed, by, move, keep, drop, use1, split, join, rewrite, fsplit, fjoin, suffices, frame, done, whole, sub, look-in, look, look-raw, init, store, forget, stop, hop, fld, from, load, lit, of-opd, and-then, no-more, bin, assigns, assigns-last, land, first, blocks, loops, again, exec, returns, enter, alloc1, alloc0, params1, pass1, pass0, fmOf, WpFn-mono, owns, Is, shows, uint-vals, uint-tells, uint-makes, uint-lawful, usize, RefT, shares, pointee, sliceTy, sliceVal, ShrSlice, Room, at-slice, heres, codedHoleys, slice-vals, shr-slice-tells, row, place-is, elem-out, elem-back, looks-slice, shuts-slice, plain, nothing, owned, Contract, Triple, calls-at, Vals, onEntry, tripleOf, entered, cited, says, Stays, stay-none, stay-none-slice, walkOf, ends-at, walked, goes-none, goes-none-slice, walk-meets, yes}
 use Rattle.run_slots.proofs.Laws.Called.{value-back}
 use Rattle.run_slots.proofs.Laws.Finds.{Behind, began, passed, at-one, at-none, no-more-than}
+use Rattle.run_slots.proofs.Laws.Frees.{frees-all}
 use Rattle.run_slots.proofs.Laws.Near.{size, near, next, small, falls}
 use Rattle.run_slots.proofs.Laws.Tests.{tests, quits}
 use denote.Struct.Laws as LL
@@ -198,7 +199,7 @@ module _ {M : Type 1} (𝓤 : URA M) (H : Heap 𝓤) (A : Atoms 𝓤) (W : Given
           land ! (from ! (stop !)) (init ! 33 refl (LL.lawful F.the-type F′.the-laws 𝓤 H A W .typed f _ gf .0)) $
           shuts-slice ! tt T.the-row q′ ys b o $
           returns-within ! Post refl (look ! 32 refl) $ forget ! 6 refl $ forget ! 8 refl $ forget ! 10 refl $ forget ! 12 refl $ forget ! 14 refl $ forget ! 16 refl $ forget ! 18 refl $ forget ! 20 refl $ forget ! 22 refl $ forget ! 24 refl $ forget ! 26 refl $ forget ! 28 refl $ forget ! 30 refl $ forget ! 32 refl $
-          move ! (32 ∷ 33 ∷ []) $ free1 ! $ move ! (30 ∷ 31 ∷ []) $ free1 ! $ move ! (28 ∷ 29 ∷ []) $ free1 ! $ move ! (26 ∷ 27 ∷ []) $ free1 ! $ move ! (24 ∷ 25 ∷ []) $ free1 ! $ move ! (22 ∷ 23 ∷ []) $ free1 ! $ move ! (20 ∷ 21 ∷ []) $ free1 ! $ move ! (18 ∷ 19 ∷ []) $ free1 ! $ move ! (16 ∷ 17 ∷ []) $ free1 ! $ move ! (14 ∷ 15 ∷ []) $ free1 ! $ move ! (12 ∷ 13 ∷ []) $ free1 ! $ move ! (10 ∷ 11 ∷ []) $ free1 ! $ move ! (8 ∷ 9 ∷ []) $ free1 ! $ move ! (6 ∷ 7 ∷ []) $ free1 ! $ free0 ! $
+          frees-all ! 6 refl $
           move ! (3 ∷ 1 ∷ []) $ fjoin ! $ move ! (3 ∷ 0 ∷ []) $ fjoin ! $ keep ! (1 ∷ 0 ∷ 3 ∷ []) $ by ! (exits f (e′ ∙ at-one count ys (fits u) (t .behind) c less e yes-it) gf))))
           -- it is not: the next
           (λ not-it. assigns-last ! (bin ! (load ! (from ! (stop !)) (look ! 21 refl)) (lit ! tt) (record { fits = next (gn .0) l })) (from ! (stop !)) (store ! 21 refl (tt, record { fits = next (gn .0) l })) $
@@ -212,7 +213,7 @@ module _ {M : Type 1} (𝓤 : URA M) (H : Heap 𝓤) (A : Atoms 𝓤) (W : Given
           land ! (from ! (stop !)) (init ! 33 refl (LL.lawful F.the-type F′.the-laws 𝓤 H A W .typed f _ gf .0)) $
           shuts-slice ! tt T.the-row q′ ys b o $
           returns ! (look ! 32 refl) $ forget ! 14 refl $ forget ! 16 refl $ forget ! 20 refl $ forget ! 22 refl $ forget ! 24 refl $ forget ! 26 refl $ forget ! 28 refl $ forget ! 30 refl $ forget ! 32 refl $
-          move ! (32 ∷ 33 ∷ []) $ free1 ! $ move ! (30 ∷ 31 ∷ []) $ free1 ! $ move ! (28 ∷ 29 ∷ []) $ free1 ! $ move ! (26 ∷ 27 ∷ []) $ free1 ! $ move ! (24 ∷ 25 ∷ []) $ free1 ! $ move ! (22 ∷ 23 ∷ []) $ free1 ! $ move ! (20 ∷ 21 ∷ []) $ free1 ! $ move ! (18 ∷ 19 ∷ []) $ free1 ! $ move ! (16 ∷ 17 ∷ []) $ free1 ! $ move ! (14 ∷ 15 ∷ []) $ free1 ! $ move ! (12 ∷ 13 ∷ []) $ free1 ! $ move ! (10 ∷ 11 ∷ []) $ free1 ! $ move ! (8 ∷ 9 ∷ []) $ free1 ! $ move ! (6 ∷ 7 ∷ []) $ free1 ! $ free0 ! $
+          frees-all ! 6 refl $
           move ! (3 ∷ 1 ∷ []) $ fjoin ! $ move ! (3 ∷ 0 ∷ []) $ fjoin ! $ keep ! (1 ∷ 0 ∷ 3 ∷ []) $ by ! (exits f (e ∙ at-none count ys (fits u) (t .behind) c (nltb→le (t .i) n failed)) gf))))) t₀
 
     walk : (𝓣 : Tables 𝓤 H) → Triple 𝓤 (𝓣 .C within-def.name) Within → Triple 𝓤 (𝓣 .C is-wanted-def.name) IsWanted → Triple 𝓤 (𝓣 .C found-at-def.name) FoundAt → Triple 𝓤 (𝓣 .C found-none-def.name) FoundNone

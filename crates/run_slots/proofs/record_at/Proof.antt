@@ -1,8 +1,9 @@
 -- `run_slots::record_at` meets its contract: a walk of its MIR, by hand, with a `return` inside a branch, and a call of a covered function behind it.
 use lib.Dec.{ltb→lt, nltb→le}
 use types.Run.{returns-within}
-use Rattle.run_slots.proofs.Laws.Walk.{_≡_, refl, sym, _∙_, ℕ, _<_, _^_, List, [], _∷_, length, getD, URA, fullShare, Ty, named, imm, w64, tyInt, tyBool, tyPtr, tyRef, Val, vint, vptr, SProp, ent, emp, via, fst∗, id⊢, Lft, GName, Share, ftrue, fat, flft, Memory, Routine, Heap, Env, WpFn, Tables, Atoms, sem, Fun, givenOf, tables, tablesOf, Given, atRet, ‵, raw, _⊛_, ⋆, _$_, _∵_, !, qed, by, move, keep, drop, use1, split, join, rewrite, fsplit, fjoin, suffices, frame, done, whole, sub, look-in, look, look-raw, init, forget, stop, hop, fld, from, load, lit, of-opd, no-more, bin, assigns, land, first, branches, skips, exec, returns, enter, alloc1, alloc0, params1, pass1, pass0, free1, free0, fmOf, WpFn-mono, owns, Is, shows, uint-vals, uint-tells, usize, RefT, pointee, sliceTy, sliceVal, ShrSlice, Room, slice-vals, shr-slice-tells, place-is, elem-out, elem-back, looks-slice, shuts-slice, plain, nothing, owned, Contract, Triple, calls-at, Vals, onEntry, tripleOf, entered, cited, says, Stays, stay-none, stay-none-slice, walkOf, ends-at, walked, goes-none, goes-none-slice, walk-meets, yes}
+use Rattle.run_slots.proofs.Laws.Walk.{_≡_, refl, sym, _∙_, ℕ, _<_, _^_, List, [], _∷_, length, getD, URA, fullShare, Ty, named, imm, w64, tyInt, tyBool, tyPtr, tyRef, Val, vint, vptr, SProp, ent, emp, via, fst∗, id⊢, Lft, GName, Share, ftrue, fat, flft, Memory, Routine, Heap, Env, WpFn, Tables, Atoms, sem, Fun, givenOf, tables, tablesOf, Given, atRet, ‵, raw, _⊛_, ⋆, _$_, _∵_, !, qed, by, move, keep, drop, use1, split, join, rewrite, fsplit, fjoin, suffices, frame, done, whole, sub, look-in, look, look-raw, init, forget, stop, hop, fld, from, load, lit, of-opd, no-more, bin, assigns, land, first, branches, skips, exec, returns, enter, alloc1, alloc0, params1, pass1, pass0, fmOf, WpFn-mono, owns, Is, shows, uint-vals, uint-tells, usize, RefT, pointee, sliceTy, sliceVal, ShrSlice, Room, slice-vals, shr-slice-tells, place-is, elem-out, elem-back, looks-slice, shuts-slice, plain, nothing, owned, Contract, Triple, calls-at, Vals, onEntry, tripleOf, entered, cited, says, Stays, stay-none, stay-none-slice, walkOf, ends-at, walked, goes-none, goes-none-slice, walk-meets, yes}
 use Rattle.run_slots.proofs.Laws.Called.{value-back}
+use Rattle.run_slots.proofs.Laws.Frees.{frees-all}
 use Rattle.run_slots.proofs.Laws.Near.{size, near}
 use Rattle.run_slots.proofs.Laws.Past.{getD-past}
 use denote.Struct.Laws as LL
@@ -76,7 +77,7 @@ module _ {M : Type 1} (𝓤 : URA M) (H : Heap 𝓤) (A : Atoms 𝓤) (W : Given
         assigns ! (of-opd ! (load ! (from ! (stop !)) (look ! 9 refl))) (from ! (stop !)) (init ! 23 refl (LL.lawful T.the-type T′.the-laws 𝓤 H A W .typed r _ g .0)) $
         elem-back ! T.the-row q′ ys i free (vals r) b o l $ shuts-slice ! tt T.the-row q′ ys b o $
         returns-within ! Post refl (look ! 20 refl) $ forget ! 6 refl $ forget ! 8 refl $ forget ! 10 refl $ forget ! 12 refl $ forget ! 14 refl $ forget ! 16 refl $ forget ! 18 refl $ forget ! 20 refl $
-        move ! (20 ∷ 21 ∷ []) $ free1 ! $ move ! (18 ∷ 19 ∷ []) $ free1 ! $ move ! (16 ∷ 17 ∷ []) $ free1 ! $ move ! (14 ∷ 15 ∷ []) $ free1 ! $ move ! (12 ∷ 13 ∷ []) $ free1 ! $ move ! (10 ∷ 11 ∷ []) $ free1 ! $ move ! (8 ∷ 9 ∷ []) $ free1 ! $ move ! (6 ∷ 7 ∷ []) $ free1 ! $ free0 ! $
+        frees-all ! 6 refl $
         move ! (3 ∷ 1 ∷ []) $ fjoin ! $ move ! (3 ∷ 0 ∷ []) $ fjoin ! $ keep ! (1 ∷ 0 ∷ 3 ∷ []) $ by ! (exits r refl g))))
         (λ failed. skips ! $ exec ! (𝓣 .C) (𝓣 .Λ) E body.t-4 (atRet E Post) $
         -- past the end: blank_slot()
@@ -85,7 +86,7 @@ module _ {M : Type 1} (𝓤 : URA M) (H : Heap 𝓤) (A : Atoms 𝓤) (W : Given
         value-back ! blank-slot.ended (blank-slot.clauses 𝓤 H A mem run) to-blank w val (LL.tells T.the-type T′.the-laws) (λ r. r ≡ free) (λ r ws. id⊢ 𝓤 _) (λ r e g. drop ! $
         land ! (from ! (stop !)) (init ! 20 refl (LL.lawful T.the-type T′.the-laws 𝓤 H A W .typed r _ g .0)) $
         returns ! (look ! 20 refl) $ forget ! 12 refl $ forget ! 14 refl $ forget ! 16 refl $ forget ! 18 refl $ forget ! 20 refl $
-        move ! (20 ∷ 21 ∷ []) $ free1 ! $ move ! (18 ∷ 19 ∷ []) $ free1 ! $ move ! (16 ∷ 17 ∷ []) $ free1 ! $ move ! (14 ∷ 15 ∷ []) $ free1 ! $ move ! (12 ∷ 13 ∷ []) $ free1 ! $ move ! (10 ∷ 11 ∷ []) $ free1 ! $ move ! (8 ∷ 9 ∷ []) $ free1 ! $ move ! (6 ∷ 7 ∷ []) $ free1 ! $ free0 ! $
+        frees-all ! 6 refl $
         move ! (3 ∷ 0 ∷ []) $ fjoin ! $ move ! (3 ∷ 0 ∷ []) $ fjoin ! $ keep ! (1 ∷ 0 ∷ 3 ∷ []) $ by ! (exits r (e ∙ sym (getD-past ys i free (nltb→le i (length ys) failed))) g))))))))))))
 
 pub record-at-spec : {M : Type 1} → stated.statement M

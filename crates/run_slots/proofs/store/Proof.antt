@@ -1,7 +1,8 @@
 -- `run_slots::store` meets its contract: a walk of its MIR, by hand, with a branch. Where the place is in range the borrow is opened, one record is taken out of the row and stored to, and the borrow is closed at the list with the record in it.
 use lib.Dec.{ltb→lt, nltb→le}
 use lib.ListN.{length-set}
-use Rattle.run_slots.proofs.Laws.Walk.{_≡_, refl, sym, ap, subst, ℕ, _<_, _^_, List, [], _∷_, length, set, URA, fullShare, Ty, named, mut, w64, tyInt, tyBool, tyUnit, tyPtr, tyRef, Val, vint, vptr, vunit, SProp, ent, emp, via, fst∗, Lft, GName, Share, ftrue, fat, froom, fdies, flft, fobs, fbor, Memory, Routine, Heap, Env, Calls, Loops, WpFn, Tables, Atoms, Fun, givenOf, tables, tablesOf, Given, Item, Sq, runs, atRet, ‵, _⊛_, ⋆, _$_, _∵_, !, qed, by, move, keep, drop, split, join, rewrite, fsplit, fjoin, feqI, suffices, frame, done, whole, sub, look-in, look, init, store-raw, forget, stop, hop, fld, from, load, lit, unit-lit, of-opd, bin, assigns, assigns-last, first, branches, skips, exec, returns, enter, alloc1, alloc0, params1, pass1, pass0, free1, free0, WpFn-mono, owns, pureI, Is, shows, uint-vals, uint-tells, usize, RefT, pointee, sliceTy, sliceVal, MutSlice, Room, at-slice, heres, codedHoleys, slice-vals, mut-slice-tells, Held, place-is, elem-out, elem-put, opens-slice, closes-slice, plain, owned, Vals, onEntry, tripleOf, entered, says, Stays, stay-slice, stay-none, walkOf, ends-at, walked, goes-slice, goes-none, walk-meets, yes}
+use Rattle.run_slots.proofs.Laws.Walk.{_≡_, refl, sym, ap, subst, ℕ, _<_, _^_, List, [], _∷_, length, set, URA, fullShare, Ty, named, mut, w64, tyInt, tyBool, tyUnit, tyPtr, tyRef, Val, vint, vptr, vunit, SProp, ent, emp, via, fst∗, Lft, GName, Share, ftrue, fat, froom, fdies, flft, fobs, fbor, Memory, Routine, Heap, Env, Calls, Loops, WpFn, Tables, Atoms, Fun, givenOf, tables, tablesOf, Given, Item, Sq, runs, atRet, ‵, _⊛_, ⋆, _$_, _∵_, !, qed, by, move, keep, drop, split, join, rewrite, fsplit, fjoin, feqI, suffices, frame, done, whole, sub, look-in, look, init, store-raw, forget, stop, hop, fld, from, load, lit, unit-lit, of-opd, bin, assigns, assigns-last, first, branches, skips, exec, returns, enter, alloc1, alloc0, params1, pass1, pass0, WpFn-mono, owns, pureI, Is, shows, uint-vals, uint-tells, usize, RefT, pointee, sliceTy, sliceVal, MutSlice, Room, at-slice, heres, codedHoleys, slice-vals, mut-slice-tells, Held, place-is, elem-out, elem-put, opens-slice, closes-slice, plain, owned, Vals, onEntry, tripleOf, entered, says, Stays, stay-slice, stay-none, walkOf, ends-at, walked, goes-slice, goes-none, walk-meets, yes}
+use Rattle.run_slots.proofs.Laws.Frees.{frees-all}
 use Rattle.run_slots.proofs.Laws.Near.{size, near}
 use Rattle.run_slots.proofs.Laws.Past.{set-past}
 use denote.Struct.Laws as LL
@@ -67,7 +68,7 @@ module _ {M : Type 1} (𝓤 : URA M) (H : Heap 𝓤) (A : Atoms 𝓤) (W : Given
     leaves : (l : List Slot) → l ≡ set ys i v → length l ≡ length ys → Sq W (Rest l Free) (runs C Λ E body.t-4 (atRet E Post))
     leaves l e same =
         assigns ! (of-opd ! (unit-lit !)) (from ! (stop !)) (init ! 20 refl (tt, tt)) $ returns ! (look ! 20 refl) $ forget ! 20 refl $
-        move ! (20 ∷ 21 ∷ []) $ free1 ! $ move ! (18 ∷ 19 ∷ []) $ free1 ! $ move ! (16 ∷ 17 ∷ []) $ free1 ! $ move ! (14 ∷ 15 ∷ []) $ free1 ! $ move ! (12 ∷ 13 ∷ []) $ free1 ! $ move ! (10 ∷ 11 ∷ []) $ free1 ! $ move ! (8 ∷ 9 ∷ []) $ free1 ! $ move ! (6 ∷ 7 ∷ []) $ free1 ! $ free0 ! $
+        frees-all ! 6 refl $
         by ! (exits gn l e same)
 
   module _ (C : Calls 𝓤 H) (Λ : Loops 𝓤 H) where
