@@ -4,3 +4,4 @@ pub mod Index
 pub mod Calls
 pub mod Reached
 pub mod Demands
+pub mod Run

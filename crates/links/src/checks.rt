@@ -7,6 +7,8 @@ use crate::Settings;
 use crate::StartValues;
 ghost use mathlib.Core.Path.{_≡_};
 ghost use mathlib.Core.List.{[]};
+ghost use Prim.Native.Nat.{_-_};
+ghost use lib.Dec.{ltb};
 ghost use Rattle.replies.specs.Rules.{refusal, _if_, _then_};
 ghost use Rattle.links.specs.Settings.{midOk, interfaceOk, retired, settingsValues, groundRules, settingsRules};
 ghost use Rattle.links.specs.Calls.{goodDynamic, startValues};
@@ -50,6 +52,16 @@ fn refused_by_values(outside: bool, retired: bool) -> u8
         return replies::KIND_RETIRED;
     }
     replies::DONE
+}
+
+// Whether there are too few records for the slots that count.
+pub fn too_short(max: usize, records: usize) -> bool
+    ensures { λ r. ⌜ r ≡ ltb records (max - 1) ⌝ }
+{
+    if max == 0 {
+        return false;
+    }
+    records < max - 1
 }
 
 // The number by which its values refuse a start, where `most` is the largest maximum: 1, 30 in this order, or 0.

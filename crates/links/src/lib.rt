@@ -32,6 +32,9 @@ pub const SLOTS: usize = 64;
 
 pub const MOST: usize = 65;
 
+// The largest index maximum of a table over a lent run.
+pub const MOST_OVER_A_RUN: usize = 4093;
+
 // A link's interface: its kind and its resolve flag.
 pub struct Interface {
     pub kind: u8,
@@ -73,6 +76,21 @@ pub struct Table {
     pub dgvl: Interface,
     pub area: PerhapsArea,
     pub slots: [Slot; SLOTS],
+}
+
+// The same table without its slots: the head of a table over a lent run, whose slots are the run's records.
+pub struct Head {
+    pub own: u64,
+    pub max: usize,
+    pub tvl: Interface,
+    pub dgvl: Interface,
+    pub area: PerhapsArea,
+}
+
+// A table over a run, where a start gave one.
+pub enum PerhapsHead {
+    Given(Head),
+    Nothing,
 }
 
 pub enum PerhapsLink {
@@ -158,4 +176,18 @@ pub struct Reply {
     pub number: u8,
     pub link: PerhapsLink,
     pub table: Table,
+}
+
+// What a call on a table over a run answers: its number, the link if one is given, and the head after it. The records after it are in
+// the run.
+pub struct HeadReply {
+    pub number: u8,
+    pub link: PerhapsLink,
+    pub head: Head,
+}
+
+// What a start over a run answers: its number, and the head of the table, or none where it is refused.
+pub struct Begun {
+    pub number: u8,
+    pub head: PerhapsHead,
 }

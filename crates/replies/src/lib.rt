@@ -37,4 +37,6 @@ pub const VERSION_NOT_6: u8 = 21;
 
 pub const LENGTH_FIELD_WRONG: u8 = 22;
 
+pub const RUN_TOO_SHORT: u8 = 23;
+
 pub const KIND_RETIRED: u8 = 30;
