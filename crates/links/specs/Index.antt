@@ -36,3 +36,11 @@ chosen t i = record { index = i; kind = interfaceAt t i .kind }
 
 abbrev pub named : Table → LinkIndex → Named
 named t i = record { enabled = enabledAt (counted t) i; interface = interfaceAt t i; area = areaAt t i }
+
+-- the same, by the fixed links, the area of the DGVL, and the link's slot
+abbrev pub namedFrom : Interface → Interface → PerhapsArea → LinkIndex → Slot → Named
+namedFrom tvl dgvl area i x = record {
+  enabled = isFixed i || x .enabled;
+  interface = cond (eqb (i .0) (tvlIndex .0)) tvl (cond (eqb (i .0) (dgvlIndex .0)) dgvl (x .settings .interface));
+  area = cond (eqb (i .0) (tvlIndex .0)) Unset (cond (eqb (i .0) (dgvlIndex .0)) area (Set (x .settings .area)));
+}

@@ -2,6 +2,7 @@
 // the laws of demands 1 and 2 are proved here of the definitions, for every layout of the table.
 
 pub mod checks;
+pub mod index;
 
 use area::Area;
 use prefix::Prefix;

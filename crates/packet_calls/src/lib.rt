@@ -18,7 +18,13 @@ ghost use Rattle.traffic.specs.Leaves.{request};
 ghost use Rattle.packet_calls.specs.Steps.{deliveredOn, sentFrom, addressFrom};
 
 // An indication on the link that was chosen for it, where no number refuses it so far.
-pub fn deliver(number: u8, link: Chosen, h: IndicationHead, packet: &[u8], out: &mut [u8]) -> Reception
+pub fn deliver(
+    number: u8,
+    link: Chosen,
+    h: IndicationHead,
+    packet: &[u8],
+    out: &mut [u8],
+) -> Reception
     ensures { λ r. ⌜ (r ≡ deliveredOn number link (indication h (now (packet .entry))) (now (out .entry)) .reply) × (now (out .exit) ≡ deliveredOn number link (indication h (now (packet .entry))) (now (out .entry)) .buffer) ⌝ }
 {
     if number != replies::DONE {
@@ -28,7 +34,14 @@ pub fn deliver(number: u8, link: Chosen, h: IndicationHead, packet: &[u8], out: 
 }
 
 // A request, from the slot at its link's place.
-pub fn send(head: Head, records: usize, slot: Slot, h: RequestHead, hop: &[u8], packet: &[u8]) -> Sending
+pub fn send(
+    head: Head,
+    records: usize,
+    slot: Slot,
+    h: RequestHead,
+    hop: &[u8],
+    packet: &[u8],
+) -> Sending
     ensures { λ r. ⌜ r ≡ sentFrom head records slot (request h (now (hop .entry)) (now (packet .entry))) ⌝ }
 {
     let bad = leaves::request_values_refusal(h);
@@ -60,8 +73,5 @@ pub fn address(head: Head, records: usize, slot: Slot, index: LinkIndex) -> Inte
             address: [0; 16],
         };
     }
-    leaves::address_on(
-        (index.0 < LinkIndex::FIRST_STOP.0) | slot.enabled,
-        head.own,
-    )
+    leaves::address_on((index.0 < LinkIndex::FIRST_STOP.0) | slot.enabled, head.own)
 }

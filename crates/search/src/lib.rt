@@ -1,5 +1,7 @@
 // What is looked for among slots, and what a search finds. No layout of the table is here: each has a loop of its own, which asks the
 // one test of a slot and gives the one answer.
+pub mod inquiry;
+
 use area::Area;
 use links::Chosen;
 use links::Slot;

@@ -25,7 +25,7 @@ use Rattle.search.specs.declared.Wanted.the-variants.{Unused, SameGround, Overl
 use Rattle.search.specs.declared.inquiry.Inquiry.{Inquiry}
 use Rattle.search.specs.Inquiry.{asking, after}
 use Rattle.table_calls.specs.declared.SlotChange.{SlotChange}
-use Rattle.table_calls.specs.declared.heads.Beginning.{Beginning}
+use Rattle.table_calls.specs.declared.heads.StartOrder.{StartOrder}
 
 -- where the slot of a link stands; behind the last one for a fixed link and for an index that does not count
 abbrev pub slotPlace : ℕ → ℕ → LinkIndex → ℕ
@@ -83,7 +83,7 @@ ownSet h records m =
 
 -- Start
 
-abbrev pub beginning : ℕ → StartValues → Beginning
+abbrev pub beginning : ℕ → StartValues → StartOrder
 beginning records v =
     let n = refusal (startValues 4093 v ++ (23 if ltb records (v .max - 1) then [])) in
     record { number = n; count = cond (eqb n 0) (v .max - 1) 0 }

@@ -62,29 +62,29 @@ pub fn set_own(head: Head, records: usize, mid: u64) -> HeadReply
     without_link(replies::DONE, now)
 }
 
-// What a start over a run comes to: its number, and how many records it clears.
-pub struct Beginning {
+// What a start over a run has done: its number, and how many records are cleared.
+pub struct StartOrder {
     pub number: u8,
     pub count: usize,
 }
 
-pub fn beginning(records: usize, v: StartValues) -> Beginning
+pub fn beginning(records: usize, v: StartValues) -> StartOrder
     ensures { λ r. ⌜ r ≡ beginning records v ⌝ }
 {
     let bad = links::checks::start_refusal(links::MOST_OVER_A_RUN, v);
     if bad != replies::DONE {
-        return Beginning {
+        return StartOrder {
             number: bad,
             count: 0,
         };
     }
     if links::checks::too_short(v.max, records) {
-        return Beginning {
+        return StartOrder {
             number: replies::RUN_TOO_SHORT,
             count: 0,
         };
     }
-    Beginning {
+    StartOrder {
         number: replies::DONE,
         count: search::inquiry::slot_count(v.max),
     }

@@ -29,11 +29,3 @@ placeIn i = cond (ltb (slotPlace i) 64) (slotPlace i) 0
 -- the slot of a link, from what stands at its place; a fixed link and an index that does not count have none
 abbrev pub slotFrom : ℕ → LinkIndex → Slot → Slot
 slotFrom max i x = cond (leb (min (max - 1) 64) (slotPlace i)) free x
-
--- the link that an index names, by the fixed links, the area of the DGVL, and its slot
-abbrev pub namedFrom : Interface → Interface → PerhapsArea → LinkIndex → Slot → Named
-namedFrom tvl dgvl area i x = record {
-  enabled = isFixed i || x .enabled;
-  interface = cond (eqb (i .0) (tvlIndex .0)) tvl (cond (eqb (i .0) (dgvlIndex .0)) dgvl (x .settings .interface));
-  area = cond (eqb (i .0) (tvlIndex .0)) Unset (cond (eqb (i .0) (dgvlIndex .0)) area (Set (x .settings .area)));
-}

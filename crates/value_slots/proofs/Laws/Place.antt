@@ -11,9 +11,9 @@ use Rattle.links.specs.declared.LinkIndex.{LinkIndex}
 use Rattle.links.specs.declared.Slot.{Slot}
 use Rattle.links.specs.declared.Table.{Table}
 use Rattle.links.specs.Slots.{isFixed, placeOf, free, counted, slotAt}
-use Rattle.links.specs.Index.{enabledAt, interfaceAt, areaAt, named}
+use Rattle.links.specs.Index.{enabledAt, interfaceAt, areaAt, named, namedFrom}
 use Rattle.links.proofs.Laws.Counted.{counted-length, counted-at, any-default, beyond}
-use Rattle.value_slots.specs.Search.{slotPlace, placeIn, slotFrom, namedFrom}
+use Rattle.value_slots.specs.Search.{slotPlace, placeIn, slotFrom}
 
 read-by-place : (l : List Slot) (i : LinkIndex) → length l ≤ 64 → slotAt l i ≡ getD l (slotPlace i) free
 read-by-place l i h = go (isFixed i)

@@ -1,9 +1,9 @@
--- `value_slots::index::link_from` meets its contract.
+-- `links::index::link_from` meets its contract.
 use Prim.Native.Nat.{_<_, _≤_}
 use native.Mathlib.Omega.{arith}
 use borrow.Author.Tests.{lt-ltb, le-ltb, eq-eqb, ne-eqb}
-use Rattle.value_slots.proofs.index.link_from.Statement.{statement}
-use Rattle.value_slots.proofs.index.link_from.Tie as tie
+use Rattle.links.proofs.index.link_from.Statement.{statement}
+use Rattle.links.proofs.index.link_from.Tie as tie
 
 returns : tie.Need-returns
 returns c =
