@@ -1,5 +1,6 @@
 // The choice of a link, by the first of the four lines that fits (line-first), as two questions: by the area, or by the packet's
 // destination; and where nothing was found, by its source. The link that is taken where nothing is found goes with each question.
+use crate::order;
 use links::Chosen;
 use links::Head;
 use links::LinkIndex;
@@ -21,11 +22,10 @@ fn refused_before(max: usize, records: usize, h: IndicationHead, packet: &[u8]) 
     ensures { λ r. ⌜ r ≡ refusal (indicationRulesBefore max records (indication h (now (packet .entry)))) ⌝ }
 {
     let bad = arrives::indication_values_refusal(h);
-    if bad != replies::DONE {
-        return bad;
-    }
-    if links::checks::too_short(max, records) {
-        return replies::RUN_TOO_SHORT;
+    let short = links::checks::too_short(max, records);
+    let number = order::values_first(bad, bad != replies::DONE, short);
+    if number != replies::DONE {
+        return number;
     }
     arrives::content_refusal(h, packet)
 }

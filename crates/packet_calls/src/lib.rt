@@ -2,6 +2,7 @@
 // answer. Whoever holds the slots answers, by value or in a lent run. `records` is how many slots there are: with fewer than
 // maximum - 1 the call is refused (23).
 pub mod choosing;
+mod order;
 
 use links::Chosen;
 use links::Head;
@@ -45,11 +46,10 @@ pub fn send(
     ensures { λ r. ⌜ r ≡ sentFrom head records slot (request h (now (hop .entry)) (now (packet .entry))) ⌝ }
 {
     let bad = leaves::request_values_refusal(h);
-    if bad != replies::DONE {
-        return leaves::not_sent(bad, packet);
-    }
-    if links::checks::too_short(head.max, records) {
-        return leaves::not_sent(replies::RUN_TOO_SHORT, packet);
+    let short = links::checks::too_short(head.max, records);
+    let number = order::values_first(bad, bad != replies::DONE, short);
+    if number != replies::DONE {
+        return leaves::not_sent(number, packet);
     }
     let tvl = head.tvl;
     let dgvl = head.dgvl;
