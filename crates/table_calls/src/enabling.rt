@@ -10,21 +10,30 @@ use search::Wanted;
 use search::inquiry;
 use search::inquiry::Inquiry;
 ghost use mathlib.Core.Path.{_≡_};
+ghost use mathlib.Core.Bool.{cond};
+ghost use lib.Dec.{eqb};
 ghost use Rattle.replies.specs.Rules.{refusal};
 ghost use Rattle.table_calls.specs.Steps.{enableRules, groundAsked, overlapAsked, unusedAsked, enabled};
+
+// The number so far, and the next one where that is 0.
+fn first(number: u8, next: u8) -> u8
+    ensures { λ r. ⌜ r ≡ cond (eqb number 0) next number ⌝ }
+{
+    if number != replies::DONE {
+        return number;
+    }
+    next
+}
 
 // The number by which the settings and the length of the run refuse it: 1, 30, 23, 2, 3 in this order, or 0.
 fn refused_before(max: usize, records: usize, s: Settings) -> u8
     ensures { λ r. ⌜ r ≡ refusal (enableRules max records s) ⌝ }
 {
-    let bad = links::checks::settings_values_refusal(s);
-    if bad != replies::DONE {
-        return bad;
-    }
-    if links::checks::too_short(max, records) {
-        return replies::RUN_TOO_SHORT;
-    }
-    links::checks::ground_refusal(s)
+    let short = links::checks::too_short(max, records);
+    let run = inquiry::after(replies::DONE, replies::RUN_TOO_SHORT, short);
+    let values = links::checks::settings_values_refusal(s);
+    let ground = links::checks::ground_refusal(s);
+    first(first(values, run), ground)
 }
 
 pub fn ground(max: usize, records: usize, s: Settings) -> Inquiry

@@ -6,6 +6,7 @@ use links::PerhapsArea;
 use links::PerhapsHead;
 use links::PerhapsLink;
 use links::StartValues;
+use search::inquiry;
 ghost use mathlib.Core.Path.{_≡_};
 ghost use Rattle.table_calls.specs.Steps.{areaSet, ownSet, beginning, begun};
 
@@ -71,22 +72,18 @@ pub struct StartOrder {
 pub fn beginning(records: usize, v: StartValues) -> StartOrder
     ensures { λ r. ⌜ r ≡ beginning records v ⌝ }
 {
+    let short = links::checks::too_short(v.max, records);
     let bad = links::checks::start_refusal(links::MOST_OVER_A_RUN, v);
-    if bad != replies::DONE {
+    let number = inquiry::after(bad, replies::RUN_TOO_SHORT, short);
+    if number != replies::DONE {
         return StartOrder {
-            number: bad,
-            count: 0,
-        };
-    }
-    if links::checks::too_short(v.max, records) {
-        return StartOrder {
-            number: replies::RUN_TOO_SHORT,
+            number: number,
             count: 0,
         };
     }
     StartOrder {
         number: replies::DONE,
-        count: search::inquiry::slot_count(v.max),
+        count: inquiry::slot_count(v.max),
     }
 }
 

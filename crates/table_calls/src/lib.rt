@@ -61,11 +61,12 @@ pub fn disable(max: usize, records: usize, index: LinkIndex, slot: Slot) -> Slot
     if !slot.enabled {
         return unchanged(replies::NO_SUCH_LINK, records);
     }
+    let gone = links::blank_slot();
     SlotChange {
         number: replies::DONE,
         link: PerhapsLink::Nothing,
         place: index.0 - LinkIndex::FIRST_STOP.0,
-        slot: links::blank_slot(),
+        slot: gone,
     }
 }
 

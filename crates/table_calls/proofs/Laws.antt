@@ -1,0 +1,2 @@
+-- The laws of the steps.
+pub mod Numbers

@@ -1,0 +1,14 @@
+-- `table_calls::enabling::change` meets its contract.
+use mathlib.Core.Path.{_∙_}
+use borrow.Author.Tests.{eq-eqb, ne-eqb}
+use Rattle.table_calls.proofs.enabling.change.Statement.{statement}
+use Rattle.table_calls.proofs.enabling.change.Tie as tie
+
+returns : tie.Need-returns
+returns c = c .unchanged .ensures ∙ rw (← c .before .before .after .ensures, ne-eqb _ 0 (c .before .if1 .taken))
+
+returns-2 : tie.Need-returns-2
+returns-2 c = rw (← c .before .before .before .after .ensures, eq-eqb _ 0 (c .before .before .if1 .left))
+
+pub change-spec : {M : Type 1} → statement M
+change-spec = tie.close (tie.spec (λ c κs. tt) (λ c κs. tt) returns returns-2)
