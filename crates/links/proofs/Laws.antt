@@ -8,5 +8,6 @@ pub mod Slots
 pub mod Settings
 pub mod Replaced
 pub mod Sound
+pub mod Run
 pub mod Retired
 pub mod Demands

@@ -5,11 +5,14 @@ use mathlib.Core.Logic.{_≢_}
 use mathlib.Core.Bool.{true}
 use mathlib.Core.List.{List}
 use lib.ListN.{length, getD, drop}
-use Rattle.replies.specs.Rules.{Exact}
+use Rattle.replies.specs.Rules.{Rule, Exact}
+use Rattle.links.specs.declared.Head.{Head}
 use Rattle.links.specs.declared.LinkIndex.{LinkIndex}
 use Rattle.links.specs.declared.PerhapsArea.{PerhapsArea}
 use Rattle.links.specs.declared.PerhapsArea.the-variants.{Unset}
+use Rattle.links.specs.declared.PerhapsHead.the-variants.{Given, Nothing as NoHead}
 use Rattle.links.specs.declared.PerhapsLink.the-variants.{Link, Nothing}
+use Rattle.links.specs.declared.Reply.{Reply}
 use Rattle.links.specs.declared.Settings.{Settings}
 use Rattle.links.specs.declared.Slot.{Slot}
 use Rattle.links.specs.declared.StartValues.{StartValues}
@@ -17,11 +20,12 @@ use Rattle.links.specs.declared.Table.{Table}
 use Rattle.links.specs.Slots.{free, inUse, counted}
 use Rattle.links.specs.Calls.{TableCall, enable, disable, setArea, setOwn, rules, reply, startValues, start}
 use Rattle.links.specs.Reached.{Reached}
+use Rattle.links.specs.Run.{over, rulesOver, replyOver, startRulesOver, startOver}
 
--- Demand 1: bad input gets its number in the rules' order, and a refusal changes nothing
-pub record Refuses (t : Table) (c : TableCall) : Type 0 where
-  pub exact : Exact (rules (counted t) c) (reply t c .number)
-  pub unchanged : reply t c .number ≢ 0 → (reply t c .table ≡ t) × (reply t c .link ≡ Nothing)
+-- Demand 1: bad input gets its number in the order of these rules, and a refusal changes nothing
+pub record Refuses (rs : List Rule) (t : Table) (r : Reply) : Type 0 where
+  pub exact : Exact rs (r .number)
+  pub unchanged : r .number ≢ 0 → (r .table ≡ t) × (r .link ≡ Nothing)
 
 -- the table of these values without a stop link, in some memory: the slots that count are free, and those past them as they were
 pub record WithoutStops (memory : List Slot) (v : StartValues) (t : Table) : Type 0 where
@@ -41,8 +45,18 @@ pub record RefusesStart (most : ℕ) (memory : List Slot) (v : StartValues) : Ty
   pub plainTable : start most memory v .number ≢ 0
       → WithoutStops memory (record { own = 0; max = 2; tvl = record { kind = 1; flag = 1 }; dgvl = record { kind = 1; flag = 1 } }) (start most memory v .table)
 
+-- run-start: a refused start over a run changes nothing and gives no table
+pub record RefusesStartOver (run : List Slot) (v : StartValues) : Type 0 where
+  pub exact : Exact (startRulesOver run v) (startOver run v .number)
+  pub unchanged : startOver run v .number ≢ 0 → (startOver run v .head ≡ NoHead) × (startOver run v .run ≡ run)
+
+-- of both layouts: of a table by value, and of one over a run, with 23 in its place
 unfoldable pub TableDemand1 : Type 0
-TableDemand1 = ((t : Table) (c : TableCall) → Refuses t c) × ((most : ℕ) (memory : List Slot) (v : StartValues) → RefusesStart most memory v)
+TableDemand1 =
+    ((t : Table) (c : TableCall) → Refuses (rules (counted t) c) t (reply t c))
+    × ((t : Table) (c : TableCall) → Refuses (rulesOver t c) t (replyOver t c))
+    × ((most : ℕ) (memory : List Slot) (v : StartValues) → RefusesStart most memory v)
+    × ((run : List Slot) (v : StartValues) → RefusesStartOver run v)
 
 -- Demand 2: the table that a call leaves is the definition's. What a reader would ask of the definition, field by field,
 -- with slot k as the record of index k + 2:
@@ -51,6 +65,11 @@ TableDemand1 = ((t : Table) (c : TableCall) → Refuses t c) × ((most : ℕ) (m
 pub record Starts (most : ℕ) (memory : List Slot) (v : StartValues) : Type 0 where
   pub noLink : start most memory v .link ≡ Nothing
   pub table : WithoutStops memory v (start most memory v .table)
+
+-- run-start: so does a start over a run, which gives its head
+pub record StartsOver (run : List Slot) (v : StartValues) (h : Head) : Type 0 where
+  pub head : startOver run v .head ≡ Given h
+  pub table : WithoutStops run v (over h (startOver run v .run))
 
 -- the two tables differ in slot k alone
 pub record DifferAt (k : ℕ) (t u : Table) : Type 0 where
@@ -90,9 +109,12 @@ pub record Sets (t : Table) (c : TableCall) (mid : ℕ) (a : PerhapsArea) : Type
   pub area : reply t c .table .area ≡ a
   pub slots : reply t c .table .slots ≡ t .slots
 
+-- a reached table over a run answers as every table does, so that what follows holds of both layouts
 unfoldable pub TableDemand2 : Type 0
 TableDemand2 =
     ((most : ℕ) (memory : List Slot) (v : StartValues) → start most memory v .number ≡ 0 → Starts most memory v)
+    × ((run : List Slot) (v : StartValues) → startOver run v .number ≡ 0 → (h : Head) × StartsOver run v h)
+    × ((most : ℕ) (memory : List Slot) (t : Table) → Reached most memory t → (c : TableCall) → replyOver t c ≡ reply t c)
     × ((most : ℕ) (memory : List Slot) (t : Table) → Reached most memory t →
     ((s : Settings) → reply t (enable s) .number ≡ 0 → (k : ℕ) × Adds t s k)
     × ((i : LinkIndex) → reply t (disable i) .number ≡ 0 → Removes t i)

@@ -3,5 +3,6 @@ pub mod Slots
 pub mod Index
 pub mod Calls
 pub mod Reached
-pub mod Demands
 pub mod Run
+pub mod Layouts
+pub mod Demands

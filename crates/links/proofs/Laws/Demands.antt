@@ -8,10 +8,12 @@ use mathlib.Core.List.{List}
 use lib.ListN.{length, drop, getD, set, length-set, length-take}
 use lib.Seq.{getD-set-same, getD-set-other, drop-set-lt}
 use borrow.Author.Tests.{ltb-true, ltb-false, not-true, not-false}
-use Rattle.replies.specs.Rules.{refusal, None, Exact}
-use Rattle.replies.proofs.Laws.Refusals.{done-exactly, none-right, exact}
+use Rattle.replies.specs.Rules.{Rule, refusal, None, Exact}
+use Rattle.replies.proofs.Laws.Refusals.{Numbered, done-exactly, none-right, exact}
+use Rattle.links.specs.declared.Head.{Head}
 use Rattle.links.specs.declared.LinkIndex.{LinkIndex}
 use Rattle.links.specs.declared.PerhapsArea.{PerhapsArea}
+use Rattle.links.specs.declared.PerhapsHead.the-variants.{Given, Nothing as NoHead}
 use Rattle.links.specs.declared.PerhapsLink.the-variants.{Nothing}
 use Rattle.links.specs.declared.Reply.{Reply}
 use Rattle.links.specs.declared.Settings.{Settings}
@@ -22,12 +24,14 @@ use Rattle.links.specs.Settings.{settingsRules}
 use Rattle.links.specs.Slots.{placeOf, free, inUse, counted, slotAt, any, place, unused}
 use Rattle.links.specs.Calls.{TableCall, enable, disable, setArea, setOwn, slotRules, rules, linkAfter, tableAfter, answer, reply, withSlot, withArea, withOwn, startValues, fresh, plainStart, begin, start}
 use Rattle.links.specs.Reached.{Sound}
-use Rattle.links.specs.Demands.{Refuses, WithoutStops, RefusesStart, TableDemand1, Starts, DifferAt, Adds, Removes, Sets, TableDemand2}
+use Rattle.links.specs.Run.{over, freshHead, rulesOver, replyOver, startRulesOver, beginOver, startOver}
+use Rattle.links.specs.Demands.{Refuses, WithoutStops, RefusesStart, RefusesStartOver, TableDemand1, Starts, StartsOver, DifferAt, Adds, Removes, Sets, TableDemand2}
 use Rattle.links.proofs.Laws.Search.{any-place, before-place, at-place}
 use Rattle.links.proofs.Laws.Counted.{enabled-below, slot-of-stop}
 use Rattle.links.proofs.Laws.Slots.{counted-with, cleared-blank, cleared-length, cleared-rest}
 use Rattle.links.proofs.Laws.Replies.{numbered, start-numbered, done}
 use Rattle.links.proofs.Laws.Sound.{sound}
+use Rattle.links.proofs.Laws.Run.{numbered-over, start-over-numbered, as-every-table, reached-long}
 
 -- Demand 1
 
@@ -39,12 +43,20 @@ unchanged : (n : ℕ) (t : Table) (c : TableCall) → answer n t c .number ≢ 0
 unchanged zero t c h = absurd (h refl)
 unchanged (suc n) t c h = (refl, refl)
 
-pub refuses : (t : Table) (c : TableCall) → Refuses t c
-unfolding reply
-refuses t c = record {
-  exact = subst (Exact (rules (counted t) c)) (sym (number-is (refusal (rules (counted t) c)) t c)) (exact (rules (counted t) c) (numbered (counted t) c));
-  unchanged = unchanged (refusal (rules (counted t) c)) t c;
+-- by any list of rules
+refuses-by : (rs : List Rule) → Numbered rs → (t : Table) (c : TableCall) → Refuses rs t (answer (refusal rs) t c)
+refuses-by rs k t c = record {
+  exact = subst (Exact rs) (sym (number-is (refusal rs) t c)) (exact rs k);
+  unchanged = unchanged (refusal rs) t c;
 }
+
+pub refuses : (t : Table) (c : TableCall) → Refuses (rules (counted t) c) t (reply t c)
+unfolding reply
+refuses t c = refuses-by (rules (counted t) c) (numbered (counted t) c) t c
+
+refuses-over : (t : Table) (c : TableCall) → Refuses (rulesOver t c) t (replyOver t c)
+unfolding replyOver
+refuses-over t c = refuses-by (rulesOver t c) (numbered-over t c) t c
 
 begin-number : (n : ℕ) (memory : List Slot) (v : StartValues) → begin n memory v .number ≡ n
 begin-number zero memory v = refl
@@ -84,9 +96,32 @@ refuses-start most memory v =
       plainTable = λ h. begin-refused n memory v h .1;
     }
 
+begin-over-number : (n : ℕ) (run : List Slot) (v : StartValues) → beginOver n run v .number ≡ n
+begin-over-number zero run v = refl
+begin-over-number (suc n) run v = refl
+
+begin-over-refused : (n : ℕ) (run : List Slot) (v : StartValues) → beginOver n run v .number ≢ 0 → (beginOver n run v .head ≡ NoHead) × (beginOver n run v .run ≡ run)
+begin-over-refused zero run v h = absurd (h refl)
+begin-over-refused (suc n) run v h = (refl, refl)
+
+begin-over-done : (n : ℕ) (run : List Slot) (v : StartValues) → beginOver n run v .number ≡ 0
+    → (beginOver n run v .head ≡ Given (freshHead v)) × WithoutStops run v (over (freshHead v) (beginOver n run v .run))
+unfolding fresh
+begin-over-done zero run v e = (refl, fresh-without-stops run v)
+begin-over-done (suc n) run v e = absurd (omega arith)
+
+refuses-start-over : (run : List Slot) (v : StartValues) → RefusesStartOver run v
+unfolding startOver
+refuses-start-over run v =
+    let rs = startRulesOver run v in
+    record {
+      exact = subst (Exact rs) (sym (begin-over-number (refusal rs) run v)) (exact rs (start-over-numbered run v));
+      unchanged = begin-over-refused (refusal rs) run v;
+    }
+
 pub table-demand-1 : TableDemand1
 unfolding TableDemand1
-table-demand-1 = (refuses, refuses-start)
+table-demand-1 = (refuses, refuses-over, refuses-start, refuses-start-over)
 
 -- Demand 2
 
@@ -95,6 +130,12 @@ unfolding start
 starts most memory v e =
     let done = begin-done (refusal (startValues most v)) memory v e in
     record { noLink = done .0; table = done .1 }
+
+starts-over : (run : List Slot) (v : StartValues) → startOver run v .number ≡ 0 → (h : Head) × StartsOver run v h
+unfolding startOver
+starts-over run v e =
+    let done = begin-over-done (refusal (startRulesOver run v)) run v e in
+    (freshHead v, record { head = done .0; table = done .1 })
 
 -- an answer 0: no rule holds, and the table is the one after the call
 module _ (t : Table) (c : TableCall) (e : reply t c .number ≡ 0) where
@@ -184,6 +225,8 @@ pub table-demand-2 : TableDemand2
 unfolding TableDemand2 tableAfter linkAfter
 table-demand-2 = (
   starts,
+  starts-over,
+  λ most memory t r c. as-every-table t c (reached-long r),
   λ most memory t r. (
     adds most memory t (sound r),
     removes most memory t (sound r),

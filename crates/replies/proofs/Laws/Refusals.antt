@@ -1,5 +1,5 @@
 -- Which number a list of refusals gives: exactly that of the first rule that holds.
-use Prim.Native.Nat.{ℕ, _<_}
+use Prim.Native.Nat.{ℕ, zero, suc, _<_}
 use native.Mathlib.Omega.{arith}
 use mathlib.Core.Path.{_≡_, refl, sym, _∙_}
 use mathlib.Core.Logic.{inl, inr, _↔_, _≢_}
@@ -85,3 +85,11 @@ by-second rs more n m k e z f = f ∙ sym (refusal-past rs more k (sym e ∙ z))
 pub numbered-append : (rs more : List Rule) → Numbered rs → Numbered more → Numbered (rs ++ more)
 numbered-append [] more h k = k
 numbered-append (r ∷ rs) more h k = (h .0, numbered-append rs more (h .1) k)
+
+-- rules that were asked before change nothing where they are asked once more
+pub refusal-again : (rs more : List Rule) → Numbered rs → refusal (rs ++ (rs ++ more)) ≡ refusal (rs ++ more)
+refusal-again rs more k = go (refusal rs) refl
+  where
+    go : (n : ℕ) → refusal rs ≡ n → refusal (rs ++ (rs ++ more)) ≡ refusal (rs ++ more)
+    go zero e = refusal-past rs (rs ++ more) k e
+    go (suc n) e = refusal-more rs (rs ++ more) (suc n) (omega arith) e ∙ sym (refusal-more rs more (suc n) (omega arith) e)
