@@ -9,5 +9,6 @@ pub mod Settings
 pub mod Replaced
 pub mod Sound
 pub mod Run
+pub mod Layouts
 pub mod Retired
 pub mod Demands
