@@ -13,6 +13,7 @@ use Rattle.links.specs.Slots.{Has, counted}
 use Rattle.links.specs.Calls.{enable, reply}
 use Rattle.links.specs.Reached.{Reached}
 use Rattle.traffic.specs.Arrives.{Indication, Received, topological, dynamic, stop, at, nowhere, stopBy, byDestination, bySource, indexOf, receive, Promised}
+use Rattle.traffic.specs.Run.{PromisedOver}
 use Rattle.traffic.specs.declared.Reception.{Reception}
 
 -- no stop link enabled in the table has these settings
@@ -70,11 +71,15 @@ pub data Follows (t u : Table) (x : Indication) (buffer : List ℕ) (a b : Recei
 unfoldable pub Demand3 : Type 0
 Demand3 = (t u : Table) → Wider t u → (x : Indication) (buffer : List ℕ) → Follows t u x buffer (receive t x buffer) (receive u x buffer)
 
--- of what two calls of the code return, and of the buffers that they leave
+-- of what two calls of the code return, and of the buffers that they leave: each on a table of either layout
+pub data Returned (t : Table) (x : Indication) (buffer : List ℕ) (r : Reception) (b : List ℕ) : Type 0 where
+  byValue : Promised t x buffer r b → Returned t x buffer r b
+  overRun : PromisedOver t x buffer r b → Returned t x buffer r b
+
 unfoldable pub Demand3OfCalls : Type 0
 Demand3OfCalls =
     (t u : Table) → Wider t u → (x : Indication) (buffer : List ℕ)
-    → (r₁ r₂ : Reception) (b₁ b₂ : List ℕ) → Promised t x buffer r₁ b₁ → Promised u x buffer r₂ b₂
+    → (r₁ r₂ : Reception) (b₁ b₂ : List ℕ) → Returned t x buffer r₁ b₁ → Returned u x buffer r₂ b₂
     → Follows t u x buffer (record { reply = r₁; buffer = b₁ }) (record { reply = r₂; buffer = b₂ })
 
 -- a stop switched on at noon: an enable, whether it is refused or not, leaves a wider table, so that what demand 3 says holds

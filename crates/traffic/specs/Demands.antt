@@ -6,7 +6,7 @@ use mathlib.Core.Logic.{_≢_}
 use mathlib.Core.Bool.{true}
 use mathlib.Core.List.{List}
 use lib.ListN.{length, take, drop}
-use Rattle.replies.specs.Rules.{Exact}
+use Rattle.replies.specs.Rules.{Rule, Exact}
 use Rattle.ipv6.specs.Packet.{destination, Placed}
 use Rattle.ipv6.specs.Identifier.{linkLocal}
 use Rattle.links.specs.declared.LinkIndex.{LinkIndex}
@@ -17,19 +17,21 @@ use Rattle.links.specs.Slots.{Has, counted}
 use Rattle.links.specs.Index.{enabledAt, named}
 use Rattle.links.specs.Reached.{Reached}
 use Rattle.links.specs.Demands.{TableDemand1, TableDemand2}
-use Rattle.traffic.specs.Arrives.{Indication, Link, topological, dynamic, stop, choose, kindOf, frameOrPacket, choiceRules, choiceOf, indicationRules, receive}
+use Rattle.traffic.specs.declared.Sending.{Sending}
+use Rattle.traffic.specs.Arrives.{Indication, Received, Link, topological, dynamic, stop, choose, kindOf, frameOrPacket, choiceRules, choiceOf, indicationRules, receive}
 use Rattle.traffic.specs.Leaves.{Request, requestRules, down, send, interfaceRules, interface}
+use Rattle.traffic.specs.Run.{indicationRulesOver, receiveOver, requestRulesOver, sendOver, interfaceRulesOver, interfaceOver}
 
 -- Demand 1
 
--- an indication: each number exactly under its condition, with the place of what is bad in the packet; a refusal gives no link
--- and no length, and leaves the buffer as it was
-pub record RefusesIndication (t : Table) (x : Indication) (buffer : List ℕ) : Type 0 where
-  pub exact : Exact (indicationRules x (length buffer)) (receive t x buffer .reply .number)
-  pub place : Placed (x .packet) (receive t x buffer .reply .number) (receive t x buffer .reply .place)
-  pub noLink : receive t x buffer .reply .number ≢ 0 → receive t x buffer .reply .link ≡ NoLink
-  pub noLength : receive t x buffer .reply .number ≢ 0 → receive t x buffer .reply .length ≡ 0
-  pub unchanged : receive t x buffer .reply .number ≢ 0 → receive t x buffer .buffer ≡ buffer
+-- an indication that these rules refuse, and its answer: each number exactly under its condition, with the place of what is bad in
+-- the packet; a refusal gives no link and no length, and leaves the buffer as it was
+pub record RefusesIndication (rs : List Rule) (x : Indication) (buffer : List ℕ) (a : Received) : Type 0 where
+  pub exact : Exact rs (a .reply .number)
+  pub place : Placed (x .packet) (a .reply .number) (a .reply .place)
+  pub noLink : a .reply .number ≢ 0 → a .reply .link ≡ NoLink
+  pub noLength : a .reply .number ≢ 0 → a .reply .length ≡ 0
+  pub unchanged : a .reply .number ≢ 0 → a .buffer ≡ buffer
 
 -- the question for its link, where no buffer is lent
 pub record RefusesChoice (t : Table) (x : Indication) : Type 0 where
@@ -38,18 +40,22 @@ pub record RefusesChoice (t : Table) (x : Indication) : Type 0 where
   pub noLink : choiceOf t x .number ≢ 0 → choiceOf t x .link ≡ NoLink
 
 -- a request, likewise
-pub record RefusesRequest (t : Table) (q : Request) : Type 0 where
-  pub exact : Exact (requestRules t q) (send t q .number)
-  pub place : Placed (q .packet) (send t q .number) (send t q .place)
-  pub noLength : send t q .number ≢ 0 → send t q .length ≡ 0
+pub record RefusesRequest (rs : List Rule) (q : Request) (a : Sending) : Type 0 where
+  pub exact : Exact rs (a .number)
+  pub place : Placed (q .packet) (a .number) (a .place)
+  pub noLength : a .number ≢ 0 → a .length ≡ 0
 
+-- of both layouts: of a table by value, and of one over a run, with 23 in its place
 unfoldable pub Demand1 : Type 0
 Demand1 =
     TableDemand1
-    × ((t : Table) (x : Indication) (buffer : List ℕ) → RefusesIndication t x buffer)
+    × ((t : Table) (x : Indication) (buffer : List ℕ) → RefusesIndication (indicationRules x (length buffer)) x buffer (receive t x buffer))
+    × ((t : Table) (x : Indication) (buffer : List ℕ) → RefusesIndication (indicationRulesOver t x (length buffer)) x buffer (receiveOver t x buffer))
     × ((t : Table) (x : Indication) → RefusesChoice t x)
-    × ((t : Table) (q : Request) → RefusesRequest t q)
+    × ((t : Table) (q : Request) → RefusesRequest (requestRules t q) q (send t q))
+    × ((t : Table) (q : Request) → RefusesRequest (requestRulesOver t q) q (sendOver t q))
     × ((t : Table) (i : LinkIndex) → Exact (interfaceRules (enabledAt (counted t) i)) (interface t i .number))
+    × ((t : Table) (i : LinkIndex) → Exact (interfaceRulesOver t i) (interfaceOver t i .number))
 
 -- Demand 2, over reached tables
 
@@ -95,9 +101,16 @@ pub record Addresses (t : Table) (i : LinkIndex) : Type 0 where
   pub mid : interface t i .mid ≡ t .own
   pub address : interface t i .address ≡ linkLocal (t .own)
 
+-- a reached table over a run answers as every table does
+pub record AsEveryTable (t : Table) : Type 0 where
+  pub indications : (x : Indication) (buffer : List ℕ) → receiveOver t x buffer ≡ receive t x buffer
+  pub requests : (q : Request) → sendOver t q ≡ send t q
+  pub addresses : (i : LinkIndex) → interfaceOver t i ≡ interface t i
+
 unfoldable pub Demand2 : Type 0
 Demand2 =
     TableDemand2
+    × ((most : ℕ) (memory : List Slot) (t : Table) → Reached most memory t → AsEveryTable t)
     × ((most : ℕ) (memory : List Slot) (t : Table) → Reached most memory t →
     ((x : Indication) (buffer : List ℕ) → receive t x buffer .reply .number ≡ 0 → Delivers t x buffer)
     × ((x : Indication) (buffer : List ℕ) → length (x .packet) + 14 ≤ length buffer → Foretells t x buffer)

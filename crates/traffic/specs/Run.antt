@@ -2,7 +2,6 @@
 -- none. The rest is that of every table.
 use Prim.Native.Nat.{ℕ}
 use mathlib.Core.Path.{_≡_}
-use mathlib.Core.Bool.{not}
 use mathlib.Core.List.{List, [], _++_}
 use lib.ListN.{length}
 use Rattle.replies.specs.Rules.{Rule, _if_, _then_, refusal}
@@ -11,11 +10,12 @@ use Rattle.links.specs.declared.Table.{Table}
 use Rattle.links.specs.Slots.{counted}
 use Rattle.links.specs.Index.{enabledAt, named}
 use Rattle.links.specs.Run.{tooShort}
+use Rattle.links.specs.Layouts.{Alike}
 use Rattle.traffic.specs.declared.InterfaceAddress.{InterfaceAddress}
 use Rattle.traffic.specs.declared.Reception.{Reception}
 use Rattle.traffic.specs.declared.Sending.{Sending}
-use Rattle.traffic.specs.Arrives.{Indication, Received, indicationValues, contentRules, roomRules, choose, deliver, unless}
-use Rattle.traffic.specs.Leaves.{Request, requestValues, linkRules, sending, interfaceRules, answerInterface}
+use Rattle.traffic.specs.Arrives.{Indication, Received, indicationValues, contentRules, roomRules, choose, deliver, unless, receive}
+use Rattle.traffic.specs.Leaves.{Request, requestValues, linkRules, sending, send, interfaceRules, answerInterface, interface}
 
 unfoldable pub choiceRulesOver : Table → Indication → List Rule
 choiceRulesOver t x = indicationValues x ++ (23 if tooShort (t .max) (t .slots) then contentRules x)
@@ -41,3 +41,12 @@ interfaceRulesOver t i = 23 if tooShort (t .max) (t .slots) then interfaceRules 
 
 unfoldable pub interfaceOver : Table → LinkIndex → InterfaceAddress
 interfaceOver t i = answerInterface (refusal (interfaceRulesOver t i)) (t .own)
+
+-- run-alike: two tables that differ in nothing, one by value and one over a run, answer packets alike
+pub record PacketsAlike (t u : Table) : Type 0 where
+  pub indications : (x : Indication) (buffer : List ℕ) → receive t x buffer ≡ receiveOver u x buffer
+  pub requests : (q : Request) → send t q ≡ sendOver u q
+  pub addresses : (i : LinkIndex) → interface t i ≡ interfaceOver u i
+
+unfoldable pub LayoutsCarryAlike : Type 0
+LayoutsCarryAlike = (t u : Table) → Alike t u → PacketsAlike t u

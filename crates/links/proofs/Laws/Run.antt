@@ -2,13 +2,13 @@
 use Prim.Native.Nat.{ℕ, zero, suc, _-_, _≤_}
 use native.Mathlib.Omega.{arith}
 use mathlib.Core.Path.{_≡_, refl, sym, _∙_, ap}
-use mathlib.Core.Bool.{Bool, false, cond}
-use mathlib.Core.List.{List, [], _∷_, _++_}
+use mathlib.Core.Bool.{false}
+use mathlib.Core.List.{List, [], _++_}
 use lib.Dec.{lit<}
 use lib.ListN.{length, length-take}
 use borrow.Author.Tests.{le-ltb}
 use Rattle.replies.specs.Rules.{Rule, _if_, _then_, refusal}
-use Rattle.replies.proofs.Laws.Refusals.{Numbered, numbered-append, refusal-again}
+use Rattle.replies.proofs.Laws.Refusals.{Numbered, numbered-append, passed-over, refusal-again}
 use Rattle.links.specs.declared.Settings.{Settings}
 use Rattle.links.specs.declared.Slot.{Slot}
 use Rattle.links.specs.declared.StartValues.{StartValues}
@@ -43,20 +43,12 @@ values-first l (disable i) = (rules l (disable i), refl)
 values-first l (setArea a) = (rules l (setArea a), refl)
 values-first l (setOwn m) = ([], refl)
 
--- a rule that does not hold is passed over, wherever it stands
-passed : (rs more : List Rule) (n : ℕ) (b : Bool) → b ≡ false → refusal (rs ++ (n if b then more)) ≡ refusal (rs ++ more)
-passed rs more n b e = go rs
-  where
-    go : (rs : List Rule) → refusal (rs ++ (n if b then more)) ≡ refusal (rs ++ more)
-    go [] = rw e
-    go (r ∷ rs) = ap (λ (m : ℕ). cond (r .holds) (r .number) m) (go rs)
-
 pub long-enough : (t : Table) (c : TableCall) → tooShort (t .max) (t .slots) ≡ false → refusal (rulesOver t c) ≡ refusal (rules (counted t) c)
 unfolding rulesOver
 long-enough t c e =
     let l = counted t in
     let first = values-first l c in
-    passed (valuesOf c) (rules l c) 23 (tooShort (t .max) (t .slots)) e
+    passed-over (valuesOf c) (rules l c) 23 (tooShort (t .max) (t .slots)) e
     ∙ ap (λ (rs : List Rule). refusal (valuesOf c ++ rs)) (first .1)
     ∙ refusal-again (valuesOf c) (first .0) (calls-values-numbered c)
     ∙ sym (ap refusal (first .1))
@@ -67,7 +59,7 @@ as-every-table t c e = ap (λ (n : ℕ). answer n t c) (long-enough t c e)
 
 pub start-long-enough : (run : List Slot) (v : StartValues) → tooShort (v .max) run ≡ false → refusal (startRulesOver run v) ≡ refusal (startValues 4093 v)
 unfolding startRulesOver startValues
-start-long-enough run v e = passed (startValues 4093 v) [] 23 (tooShort (v .max) run) e
+start-long-enough run v e = passed-over (startValues 4093 v) [] 23 (tooShort (v .max) run) e
 
 pub reached-long : {most : ℕ} {memory : List Slot} {t : Table} → Reached most memory t → tooShort (t .max) (t .slots) ≡ false
 reached-long {t = t} r =

@@ -1,11 +1,11 @@
 -- Which number a list of refusals gives: exactly that of the first rule that holds.
 use Prim.Native.Nat.{ℕ, zero, suc, _<_}
 use native.Mathlib.Omega.{arith}
-use mathlib.Core.Path.{_≡_, refl, sym, _∙_}
+use mathlib.Core.Path.{_≡_, refl, sym, _∙_, ap}
 use mathlib.Core.Logic.{inl, inr, _↔_, _≢_}
 use mathlib.Core.Bool.{Bool, true, false, cond}
 use mathlib.Core.List.{List, [], _∷_, _++_}
-use Rattle.replies.specs.Rules.{Rule, refusal, First, None, Exact}
+use Rattle.replies.specs.Rules.{Rule, _if_, _then_, refusal, First, None, Exact}
 
 -- no rule has the number 0, which means done
 abbrev pub Numbered : List Rule → Type 0
@@ -93,3 +93,11 @@ refusal-again rs more k = go (refusal rs) refl
     go : (n : ℕ) → refusal rs ≡ n → refusal (rs ++ (rs ++ more)) ≡ refusal (rs ++ more)
     go zero e = refusal-past rs (rs ++ more) k e
     go (suc n) e = refusal-more rs (rs ++ more) (suc n) (omega arith) e ∙ sym (refusal-more rs more (suc n) (omega arith) e)
+
+-- a rule that does not hold is passed over, wherever it stands
+pub passed-over : (rs more : List Rule) (n : ℕ) (b : Bool) → b ≡ false → refusal (rs ++ (n if b then more)) ≡ refusal (rs ++ more)
+passed-over rs more n b e = go rs
+  where
+    go : (rs : List Rule) → refusal (rs ++ (n if b then more)) ≡ refusal (rs ++ more)
+    go [] = rw e
+    go (r ∷ rs) = ap (λ (m : ℕ). cond (r .holds) (r .number) m) (go rs)

@@ -16,13 +16,16 @@ use Rattle.links.specs.declared.Slot.{Slot}
 use Rattle.links.specs.declared.Table.{Table}
 use Rattle.links.specs.Settings.{sameGround, reaches, Same}
 use Rattle.links.specs.Slots.{Has, free, inUse, counted}
-use Rattle.links.specs.Reached.{Sound}
+use Rattle.links.specs.Reached.{Reached, Sound}
 use Rattle.links.proofs.Laws.Settings.{ground-one, ground-alike, reaches-one, reaches-alike}
 use Rattle.links.proofs.Laws.Sound.{sound}
+use Rattle.links.proofs.Laws.Run.{reached-long}
 use Rattle.traffic.specs.declared.Destination.{Destination}
 use Rattle.traffic.specs.declared.Destination.the-variants.{Mid, Within, Nothing}
-use Rattle.traffic.specs.Arrives.{Indication, Received, Link, topological, dynamic, stop, PerhapsStop, at, nowhere, stopBy, isArea, byArea, byDestination, bySource, failing, choose, frameOrPacket, deliverAs, deliver, unless, indicationRules, receive}
-use Rattle.traffic.specs.Demand3.{Lacks, Wider, OnStop, Follows, refusesAlike, topologicalStays, stopStays, stopMoves, dynamicStays, dynamicMoves, Demand3, Demand3OfCalls}
+use Rattle.traffic.specs.declared.Reception.{Reception}
+use Rattle.traffic.specs.Arrives.{Indication, Received, Link, topological, dynamic, stop, PerhapsStop, at, nowhere, stopBy, isArea, byArea, byDestination, bySource, failing, choose, frameOrPacket, deliverAs, deliver, unless, indicationRules, receive, Promised}
+use Rattle.traffic.specs.Demand3.{Lacks, Wider, OnStop, Follows, refusesAlike, topologicalStays, stopStays, stopMoves, dynamicStays, dynamicMoves, Demand3, Returned, byValue, overRun, Demand3OfCalls}
+use Rattle.traffic.proofs.Laws.Run.{received-alike}
 use Rattle.traffic.proofs.Laws.Stops.{found-at, found-nowhere}
 
 -- A test by which line 2 or 3 looks for a link: equal settings answer it alike, and in a sound table one link at most passes it.
@@ -177,9 +180,18 @@ pub demand-3 : Demand3
 unfolding Demand3 receive
 demand-3 t u w x buffer = outcome t u w x buffer (refusal (indicationRules x (length buffer)))
 
+-- a table that calls reach is not too short, so that over a run too the answer is that of every table
+as-received : {t : Table} {most : ℕ} {memory : List Slot} {x : Indication} {buffer : List ℕ} {r : Reception} {b : List ℕ} → Reached most memory t → Returned t x buffer r b → Promised t x buffer r b
+as-received reached (byValue p) = p
+as-received {t} {x = x} {buffer = buffer} reached (overRun p) =
+    let same = received-alike t (reached-long reached) x buffer in
+    (p .0 ∙ ap (λ (a : Received). a .reply) same, p .1 ∙ ap (λ (a : Received). a .buffer) same)
+
 pub demand-3-of-calls : Demand3OfCalls
 unfolding Demand3OfCalls Demand3
-demand-3-of-calls t u w x buffer r₁ r₂ b₁ b₂ p q =
+demand-3-of-calls t u w x buffer r₁ r₂ b₁ b₂ first second =
+    let p = as-received (w .first) first in
+    let q = as-received (w .second) second in
     subst₂ (Follows t u x buffer)
     (λ i. record { reply = sym (p .0) i; buffer = sym (p .1) i })
     (λ i. record { reply = sym (q .0) i; buffer = sym (q .1) i })

@@ -9,8 +9,8 @@ use lib.Dec.{eqb}
 use lib.ListN.{length, take, drop, length-append, length-drop}
 use lib.Seq.{take-append-seam, drop-append-seam}
 use borrow.Author.Tests.{not-false}
-use Rattle.replies.specs.Rules.{refusal, Exact}
-use Rattle.replies.proofs.Laws.Refusals.{exact, done-exactly, none-right}
+use Rattle.replies.specs.Rules.{Rule, refusal, Exact}
+use Rattle.replies.proofs.Laws.Refusals.{Numbered, exact, done-exactly, none-right}
 use Rattle.ipv6.specs.Packet.{faultPlace, Placed}
 use Rattle.ipv6.specs.Identifier.{linkLocal}
 use Rattle.ipv6.proofs.Laws.Packet.{placed}
@@ -23,14 +23,17 @@ use Rattle.links.specs.declared.Table.{Table}
 use Rattle.links.specs.Slots.{counted}
 use Rattle.links.specs.Index.{enabledAt, named}
 use Rattle.links.proofs.Laws.Demands.{table-demand-1, table-demand-2}
+use Rattle.links.proofs.Laws.Run.{reached-long}
 use Rattle.traffic.specs.declared.Choice.{Choice}
 use Rattle.traffic.specs.declared.InterfaceAddress.{InterfaceAddress}
 use Rattle.traffic.specs.declared.Sending.{Sending}
 use Rattle.traffic.specs.Arrives.{Indication, Received, Link, topological, dynamic, stop, PerhapsStop, at, nowhere, stopBy, byArea, byDestination, bySource, failing, choose, kindOf, indexOf, chosenFor, choiceRules, choiceOr, choiceOf, frameOrPacket, deliver, refuse, unless, indicationRules, receive}
 use Rattle.traffic.specs.Leaves.{Request, requestValues, linkRules, requestRules, sending, send, interfaceRules, answerInterface, interfaceOn, interface}
+use Rattle.traffic.specs.Run.{indicationRulesOver, receiveOver, requestRulesOver, sendOver, interfaceRulesOver, interfaceOver}
 use Rattle.traffic.specs.Demands.{RefusesIndication, RefusesChoice, RefusesRequest, Demand1, IsLink, linkNumber, Delivers, Foretells, Sends, Addresses, Demand2}
 use Rattle.traffic.proofs.Laws.Stops.{found-at}
 use Rattle.traffic.proofs.Laws.Receive.{indication-numbered, choice-numbered, received, received-unchosen, received-on, delivered, unchosen, chosen-on, room-left, room-for}
+use Rattle.traffic.proofs.Laws.Run.{indication-over-numbered, request-over-numbered, interface-over-numbered, as-every-table}
 use Rattle.traffic.proofs.Laws.Send.{request-numbered, interface-numbered, sending-done}
 
 -- Demand 1
@@ -55,17 +58,26 @@ module _ (t : Table) (x : Indication) (buffer : List ℕ) where
   refused-given zero h = absurd (h refl)
   refused-given (suc n) h = refl
 
-  refuses-indication : RefusesIndication t x buffer
-  unfolding receive Given
-  refuses-indication =
-      let n = refusal (indicationRules x (length buffer)) in
+  -- by any list of rules
+  refuses-by : (rs : List Rule) → Numbered rs → RefusesIndication rs x buffer (Given (refusal rs))
+  unfolding Given
+  refuses-by rs k =
+      let n = refusal rs in
       record {
-        exact = subst (Exact (indicationRules x (length buffer))) (sym (number-given n)) (exact (indicationRules x (length buffer)) (indication-numbered x (length buffer)));
+        exact = subst (Exact rs) (sym (number-given n)) (exact rs k);
         place = place-given n;
         noLink = λ h. ap (λ (r : Received). r .reply .link) (refused-given n h);
         noLength = λ h. ap (λ (r : Received). r .reply .length) (refused-given n h);
         unchanged = λ h. ap (λ (r : Received). r .buffer) (refused-given n h);
       }
+
+refuses-indication : (t : Table) (x : Indication) (buffer : List ℕ) → RefusesIndication (indicationRules x (length buffer)) x buffer (receive t x buffer)
+unfolding receive Given
+refuses-indication t x buffer = refuses-by t x buffer (indicationRules x (length buffer)) (indication-numbered x (length buffer))
+
+refuses-indication-over : (t : Table) (x : Indication) (buffer : List ℕ) → RefusesIndication (indicationRulesOver t x (length buffer)) x buffer (receiveOver t x buffer)
+unfolding receiveOver Given
+refuses-indication-over t x buffer = refuses-by t x buffer (indicationRulesOver t x (length buffer)) (indication-over-numbered t x (length buffer))
 
 module _ (t : Table) (x : Indication) where
   number-chosen : (n : ℕ) (l : PerhapsLink) → choiceOr n x l .number ≡ n
@@ -106,30 +118,50 @@ module _ (l : Named) (q : Request) where
   none-sent zero h = absurd (h refl)
   none-sent (suc n) h = refl
 
-refuses-request : (t : Table) (q : Request) → RefusesRequest t q
-unfolding send
-refuses-request t q =
-    let n = refusal (requestRules t q) in
-    let l = named t (q .index) in
+refuses-request-by : (rs : List Rule) → Numbered rs → (l : Named) (q : Request) → RefusesRequest rs q (sending (refusal rs) l q)
+refuses-request-by rs k l q =
+    let n = refusal rs in
     record {
-      exact = subst (Exact (requestRules t q)) (sym (number-sent l q n)) (exact (requestRules t q) (request-numbered t q));
+      exact = subst (Exact rs) (sym (number-sent l q n)) (exact rs k);
       place = place-sent l q n;
       noLength = none-sent l q n;
     }
+
+refuses-request : (t : Table) (q : Request) → RefusesRequest (requestRules t q) q (send t q)
+unfolding send
+refuses-request t q = refuses-request-by (requestRules t q) (request-numbered t q) (named t (q .index)) q
+
+refuses-request-over : (t : Table) (q : Request) → RefusesRequest (requestRulesOver t q) q (sendOver t q)
+unfolding sendOver
+refuses-request-over t q = refuses-request-by (requestRulesOver t q) (request-over-numbered t q) (named t (q .index)) q
 
 number-of-interface : (n own : ℕ) → answerInterface n own .number ≡ n
 number-of-interface zero own = refl
 number-of-interface (suc n) own = refl
 
+refuses-interface-by : (rs : List Rule) → Numbered rs → (own : ℕ) → Exact rs (answerInterface (refusal rs) own .number)
+refuses-interface-by rs k own = subst (Exact rs) (sym (number-of-interface (refusal rs) own)) (exact rs k)
+
 refuses-interface : (t : Table) (i : LinkIndex) → Exact (interfaceRules (enabledAt (counted t) i)) (interface t i .number)
 unfolding interface interfaceOn
-refuses-interface t i =
-    let rules = interfaceRules (enabledAt (counted t) i) in
-    subst (Exact rules) (sym (number-of-interface (refusal rules) (t .own))) (exact rules (interface-numbered (enabledAt (counted t) i)))
+refuses-interface t i = refuses-interface-by (interfaceRules (enabledAt (counted t) i)) (interface-numbered (enabledAt (counted t) i)) (t .own)
+
+refuses-interface-over : (t : Table) (i : LinkIndex) → Exact (interfaceRulesOver t i) (interfaceOver t i .number)
+unfolding interfaceOver
+refuses-interface-over t i = refuses-interface-by (interfaceRulesOver t i) (interface-over-numbered t i) (t .own)
 
 pub demand-1 : Demand1
 unfolding Demand1
-demand-1 = (table-demand-1, refuses-indication, refuses-choice, refuses-request, refuses-interface)
+demand-1 = (
+  table-demand-1,
+  refuses-indication,
+  refuses-indication-over,
+  refuses-choice,
+  refuses-request,
+  refuses-request-over,
+  refuses-interface,
+  refuses-interface-over,
+)
 
 -- Demand 2
 
@@ -229,4 +261,8 @@ module _ (t : Table) where
 
 pub demand-2 : Demand2
 unfolding Demand2
-demand-2 = (table-demand-2, λ most memory t r. (delivers t, foretells t, sends t, addresses t))
+demand-2 = (
+  table-demand-2,
+  λ most memory t r. as-every-table t (reached-long r),
+  λ most memory t r. (delivers t, foretells t, sends t, addresses t),
+)

@@ -59,7 +59,7 @@ module _ (t : Table) (q : Request) where
   unfolding Demand1 requestRules linkRules
   unresolved e =
       let l = named t (q .index) in
-      let none = none-right (requestValues q) (linkRules l q) (demand-1 .3 t q .exact .done .0 e) in
+      let none = none-right (requestValues q) (linkRules l q) (demand-1 .4 t q .exact .done .0 e) in
       none-right (packetRules (q .packet)) (resolveRules l q) (none .1)
 
   nobody : multicast (destination (q .packet)) ≡ false → Nobodys (q .nextHop) → send t q .number ≢ 0

@@ -24,7 +24,7 @@ pub values-numbered : (x : Indication) → Numbered (indicationValues x)
 unfolding indicationValues
 values-numbered x = (lit< tt, tt)
 
-content-numbered : (x : Indication) → Numbered (contentRules x)
+pub content-numbered : (x : Indication) → Numbered (contentRules x)
 unfolding contentRules
 content-numbered x = (lit< tt, packet-numbered (x .packet))
 

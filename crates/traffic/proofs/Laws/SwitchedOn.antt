@@ -62,7 +62,7 @@ module _ (most : ℕ) (memory : List Slot) (t : Table) (r : Reached most memory 
     where
       go : (b : Bool) → eqb (reply t (enable s) .number) 0 ≡ b → Wider t (reply t (enable s) .table)
       go true e =
-          let added = table-demand-2 .1 most memory t r .0 s (eqb-true (reply t (enable s) .number) 0 e) in
+          let added = table-demand-2 .3 most memory t r .0 s (eqb-true (reply t (enable s) .number) 0 e) in
           done (added .0) (added .1)
       go false e = refused (eqb-false (reply t (enable s) .number) 0 e)
 
