@@ -1,8 +1,8 @@
 -- What arrives and what leaves, step by step: what a call asks of the slots, and what it makes of the answer. What that comes to is
 -- told by `receive`, `send` and `interface` of traffic, and over a run by `receiveOver` and its like; the laws say so.
 use Prim.Native.Nat.{ℕ, _-_}
-use mathlib.Core.Bool.{Bool, cond, not, _&&_, _||_}
-use mathlib.Core.List.{List, [], _++_}
+use mathlib.Core.Bool.{cond, not, _&&_, _||_}
+use mathlib.Core.List.{List, _++_}
 use lib.Dec.{eqb, ltb}
 use Rattle.replies.specs.Rules.{Rule, _if_, _then_, refusal}
 use Rattle.prefix.specs.Prefix.{ofAddress}
@@ -41,14 +41,16 @@ areaAsked (Within a) number count otherwise = asking number count (SameGround a)
 areaAsked (Mid m) number count otherwise = asking number 0 Unused otherwise
 areaAsked Nothing number count otherwise = asking number 0 Unused otherwise
 
--- line-3 asks for the packet's destination, line-2 for the area
-abbrev pub firstAsked : Head → ℕ → Indication → Inquiry
-firstAsked h records x =
-    let number = refusal (indicationRulesBefore (h .max) records x) in
+-- line-3 asks for the packet's destination, line-2 for the area; a call that a number refuses asks nothing
+abbrev pub firstBy : ℕ → Head → Indication → Inquiry
+firstBy number h x =
     let otherwise = fallback h (x .transport) in
     cond (eqb (x .transport) 1) (asking number (h .max - 1) (Overlapping (ofAddress (destination (x .packet)))) otherwise)
     (cond (eqb (x .transport) 2 || eqb (x .transport) 3) (areaAsked (x .destination) number (h .max - 1) otherwise)
     (asking number 0 Unused otherwise))
+
+abbrev pub firstAsked : Head → ℕ → Indication → Inquiry
+firstAsked h records x = firstBy (refusal (indicationRulesBefore (h .max) records x)) h x
 
 -- line-3, failing that: for its source; what was found is kept
 abbrev pub secondAsked : Inquiry → Found → Indication → Inquiry

@@ -1,2 +1,5 @@
 -- The laws of the steps.
 pub mod Numbers
+pub mod Places
+pub mod Asked
+pub mod Together

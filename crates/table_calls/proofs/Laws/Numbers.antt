@@ -1,17 +1,27 @@
 -- Numbers asked one after the other: the first that is not 0 is what their lists give, one behind the other.
 use Prim.Native.Nat.{ℕ, zero, suc, _-_}
 use native.Mathlib.Omega.{arith}
-use mathlib.Core.Path.{_≡_, refl, sym, _∙_}
-use mathlib.Core.Bool.{Bool, true, false, cond}
-use mathlib.Core.List.{List, [], _++_}
-use lib.Dec.{eqb, ltb, eqb·suc-zero}
-use Rattle.replies.specs.Rules.{Rule, _if_, _then_, refusal}
-use Rattle.replies.proofs.Laws.Refusals.{Numbered, refusal-more, refusal-past}
+use mathlib.Core.Path.{_≡_, refl, sym, _∙_, ap}
+use mathlib.Core.Bool.{Bool, true, false, cond, not}
+use mathlib.Core.List.{List, [], _∷_, _++_}
+use lib.Dec.{eqb, ltb, eqb·suc-zero, lit<}
+use lib.ListN.{length}
+use Rattle.replies.specs.Rules.{Rule, _if_, _then_, refusal, None}
+use Rattle.replies.proofs.Laws.Refusals.{Numbered, done-exactly, numbered-append, refusal-more, refusal-next, refusal-past}
+use Rattle.links.specs.declared.Head.{Head}
 use Rattle.links.specs.declared.Settings.{Settings}
-use Rattle.links.specs.Settings.{settingsValues, groundRules}
+use Rattle.links.specs.declared.Slot.{Slot}
+use Rattle.links.specs.Settings.{settingsValues, groundRules, settingsRules, sameGround, overlaps}
+use Rattle.links.specs.Slots.{counted, any, unused, with}
+use Rattle.links.specs.Calls.{enable, rules, slotRules}
+use Rattle.links.specs.Run.{over, tooShort, rulesOver}
 use Rattle.links.proofs.Laws.Replies.{values-numbered}
 use Rattle.search.specs.Inquiry.{after}
 use Rattle.table_calls.specs.Steps.{enableRules}
+
+-- a number that is not 0 stays
+pub number-stays : (n k : ℕ) (b : Bool) → after (suc n) k b ≡ suc n
+number-stays n k b = rw (eqb·suc-zero n)
 
 -- of two lists the second is asked where the first gives 0
 pub first-of : (rs more : List Rule) → Numbered rs → refusal (rs ++ more) ≡ cond (eqb (refusal rs) 0) (refusal more) (refusal rs)
@@ -24,8 +34,8 @@ first-of rs more k = go (refusal rs) refl
 -- the settings' values, 23, and then the ground
 pub before-enable : (max records : ℕ) (s : Settings)
     → cond (eqb (cond (eqb (refusal (settingsValues s)) 0) (after 0 23 (ltb records (max - 1))) (refusal (settingsValues s))) 0)
-      (refusal (groundRules s))
-      (cond (eqb (refusal (settingsValues s)) 0) (after 0 23 (ltb records (max - 1))) (refusal (settingsValues s)))
+    (refusal (groundRules s))
+    (cond (eqb (refusal (settingsValues s)) 0) (after 0 23 (ltb records (max - 1))) (refusal (settingsValues s)))
     ≡ refusal (enableRules max records s)
 unfolding enableRules
 before-enable max records s = go (refusal (settingsValues s)) (ltb records (max - 1)) ∙ sym (first-of (settingsValues s) (23 if ltb records (max - 1) then groundRules s) (values-numbered s))
@@ -34,3 +44,53 @@ before-enable max records s = go (refusal (settingsValues s)) (ltb records (max 
     go zero true = refl
     go zero false = refl
     go (suc n) b = rw (eqb·suc-zero n, eqb·suc-zero n)
+
+-- what the slots refuse stands behind what the call is refused by before
+slots-behind : (rs : List Rule) (a b d : Bool) → Numbered rs → refusal (rs ++ (4 if a then 5 if b then 6 if d then [])) ≡ after (after (after (refusal rs) 4 a) 5 b) 6 d
+slots-behind rs a b d k = first-of rs (4 if a then 5 if b then 6 if d then []) k ∙ go (refusal rs) a b d
+  where
+    go : (n : ℕ) (a b d : Bool) → cond (eqb n 0) (refusal (4 if a then 5 if b then 6 if d then [])) n ≡ after (after (after n 4 a) 5 b) 6 d
+    go zero true b d = refl
+    go zero false true d = refl
+    go zero false false true = refl
+    go zero false false false = refl
+    go (suc n) a b d =
+        let stays : cond (eqb (suc n) 0) (refusal (4 if a then 5 if b then 6 if d then [])) (suc n) ≡ suc n = rw (eqb·suc-zero n) in
+        stays ∙ sym (ap (λ (m : ℕ). after (after m 5 b) 6 d) (number-stays n 4 a) ∙ ap (λ (m : ℕ). after m 6 d) (number-stays n 5 b) ∙ number-stays n 6 d)
+
+-- values that refuse nothing may be asked once more
+module _ (values : List Rule) where
+  past : (rs more : List Rule) → None values → refusal ((values ++ rs) ++ more) ≡ refusal (rs ++ more)
+  past rs more = go values
+    where
+      go : (v : List Rule) → None v → refusal ((v ++ rs) ++ more) ≡ refusal (rs ++ more)
+      go [] h = refl
+      go (r ∷ v) h = rw (h .0) (go v (h .1))
+
+  once-more : (ground slots : List Rule) (short : Bool) → Numbered values
+      → refusal (values ++ (23 if short then ((values ++ ground) ++ slots))) ≡ refusal ((values ++ (23 if short then ground)) ++ slots)
+  once-more ground slots short k = go (refusal values) refl
+    where
+      go : (n : ℕ) → refusal values ≡ n → refusal (values ++ (23 if short then ((values ++ ground) ++ slots))) ≡ refusal ((values ++ (23 if short then ground)) ++ slots)
+      go zero e =
+          let none = done-exactly values k .0 e in
+          refusal-next values (23 if short then ((values ++ ground) ++ slots)) none
+          ∙ ap (cond short 23) (past ground slots none)
+          ∙ sym (past (23 if short then ground) slots none)
+      go (suc n) e =
+          refusal-more values _ (suc n) (omega arith) e
+          ∙ sym (refusal-more (values ++ (23 if short then ground)) slots (suc n) (omega arith) (refusal-more values (23 if short then ground) (suc n) (omega arith) e))
+
+before-numbered : (max records : ℕ) (s : Settings) → Numbered (enableRules max records s)
+unfolding enableRules groundRules
+before-numbered max records s = numbered-append (settingsValues s) _ (values-numbered s) (lit< tt, (lit< tt, (lit< tt, tt)))
+
+-- the numbers of an enable over a run, one after the other, are those of its list
+pub by-enable : (h : Head) (run : List Slot) (s : Settings) → let l = counted (over h run) in
+    refusal (rulesOver (over h run) (enable s))
+    ≡ after (after (after (refusal (enableRules (h .max) (length run) s)) 4 (any (with (λ r. sameGround r s)) l)) 5 (any (with (λ r. overlaps r s)) l)) 6 (not (any unused l))
+unfolding rulesOver rules settingsRules slotRules enableRules
+by-enable h run s =
+    let l = counted (over h run) in
+    once-more (settingsValues s) (groundRules s) (slotRules l s) (tooShort (h .max) run) (values-numbered s)
+    ∙ slots-behind (enableRules (h .max) (length run) s) _ _ _ (before-numbered (h .max) (length run) s)

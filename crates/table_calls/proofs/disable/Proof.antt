@@ -1,7 +1,7 @@
 -- `table_calls::disable` meets its contract.
 use native.Mathlib.Omega.{arith}
 use mathlib.Core.Path.{_∙_}
-use borrow.Author.Tests.{lt-ltb, le-ltb, not-true, not-false}
+use borrow.Author.Tests.{lt-ltb, le-ltb}
 use Rattle.table_calls.proofs.disable.Statement.{statement}
 use Rattle.table_calls.proofs.disable.Tie as tie
 
@@ -24,7 +24,7 @@ sub-t10 c = omega arith
 returns-4 : tie.Need-returns-4
 returns-4 c =
     let tested = c .before .before .before in
-    rw (← tested .before .before .before .before .before .before .too-short .ensures, tested .before .before .before .before .before .if1 .left, le-ltb _ 2 (tested .before .before .if2 .left), tested .if3 .left, c .before .before .blank-slot .ensures)
+    rw (← tested .before .before .before .before .before .before .too-short .ensures, tested .before .before .before .before .before .if1 .left, le-ltb _ 2 (tested .before .before .if2 .left), tested .if3 .left, ← c .before .before .blank-slot .ensures)
 
 pub disable-spec : {M : Type 1} → statement M
 disable-spec =

@@ -1,9 +1,4 @@
 -- `packet_calls::choosing::second` meets its contract.
-use mathlib.Core.Path.{_∙_, ap}
-use Rattle.prefix.specs.declared.Prefix.{Prefix}
-use Rattle.prefix.specs.Prefix.{ofAddress}
-use Rattle.search.specs.declared.Wanted.the-variants.{Overlapping}
-use Rattle.search.specs.Inquiry.{asking}
 use Rattle.packet_calls.proofs.choosing.second.Statement.{statement}
 use Rattle.packet_calls.proofs.choosing.second.Tie as tie
 

@@ -1,6 +1,5 @@
 -- `table_calls::enabling::refused_before` meets its contract.
 use mathlib.Core.Path.{_∙_}
-use Rattle.table_calls.specs.Steps.{enableRules}
 use Rattle.table_calls.proofs.Laws.Numbers.{before-enable}
 use Rattle.table_calls.proofs.enabling.refused_before.Statement.{statement}
 use Rattle.table_calls.proofs.enabling.refused_before.Tie as tie

@@ -1,5 +1,5 @@
 -- `table_calls::heads::beginning` meets its contract.
-use mathlib.Core.Path.{_≡_, sym, _∙_}
+use mathlib.Core.Path.{_≡_, _∙_}
 use mathlib.Core.List.{[], _++_}
 use Prim.Native.Nat.{_-_}
 use lib.Dec.{ltb}
