@@ -1,13 +1,16 @@
--- What walks by hand over a lent run share: of these only Near says something of a record, how many bytes it takes. Finds and Clears are
--- what this crate's two loops keep.
+-- What walks by hand over a lent run share: of these only Near says something of a record, how many bytes it takes, and Sorts names the
+-- types that calls on a run take and give. Finds and Clears are what this crate's two loops keep.
 pub mod Near
 pub mod Past
 pub mod Tests
 pub mod Frees
 pub mod Called
+pub mod Data
+pub mod Sorts
 pub mod Shared
 pub mod Again
 pub mod Local
+pub mod Over
 pub mod Walk
 pub mod Finds
 pub mod Clears

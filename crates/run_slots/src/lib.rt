@@ -91,9 +91,9 @@ pub fn clear(run: &mut [Slot], count: usize)
 {
     let blank = links::blank_slot();
     let n = within(count, run.len());
-    let mut i: usize = 0;
-    while i < n {
-        run[i] = blank;
-        i += 1;
+    let mut k: usize = 0;
+    while k < n {
+        run[k] = blank;
+        k += 1;
     }
 }

@@ -150,10 +150,24 @@ module _ (t u : Table) (a : Alike t u) where
   after-alike (enable s) = replaced t u a _ _ (inUse s) (ap (place unused) (a .records))
   after-alike (disable i) = replaced t u a (placeOf i) (placeOf i) free refl
   after-alike (setArea x) = record {
-    own = a .own; max = a .max; tvl = a .tvl; dgvl = a .dgvl; area = refl; records = a .records; first = a .first; second = a .second;
+    own = a .own;
+    max = a .max;
+    tvl = a .tvl;
+    dgvl = a .dgvl;
+    area = refl;
+    records = a .records;
+    first = a .first;
+    second = a .second;
   }
   after-alike (setOwn m) = record {
-    own = refl; max = a .max; tvl = a .tvl; dgvl = a .dgvl; area = a .area; records = a .records; first = a .first; second = a .second;
+    own = refl;
+    max = a .max;
+    tvl = a .tvl;
+    dgvl = a .dgvl;
+    area = a .area;
+    records = a .records;
+    first = a .first;
+    second = a .second;
   }
 
   by-number : (n : ℕ) (c : TableCall) → AnswersAlike (answer n t c) (answer n u c)

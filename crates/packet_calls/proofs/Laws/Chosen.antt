@@ -171,7 +171,7 @@ module _ (t : Table) (x : Indication) (bytes : Below 256 (x .packet)) where
   -- every transport takes one of these ways
   by-transport : (one area broadcast : Bool) → eqb (x .transport) 1 ≡ one → (eqb (x .transport) 2 || eqb (x .transport) 3) ≡ area → eqb (x .transport) 4 ≡ broadcast
       → link-after one (let other = cond broadcast (record { index = tvlIndex; kind = t .tvl .kind }) otherwise in
-        cond one (asking 0 (t .max - 1) (Overlapping (ofAddress (destination (x .packet)))) other) (cond area (areaAsked (x .destination) 0 (t .max - 1) other) (asking 0 0 Unused other)))
+      cond one (asking 0 (t .max - 1) (Overlapping (ofAddress (destination (x .packet)))) other) (cond area (areaAsked (x .destination) 0 (t .max - 1) other) (asking 0 0 Unused other)))
       ≡ chosenFor t x
   by-transport true area true e f g = absurd (let one = eqb-true (x .transport) 1 e in let four = eqb-true (x .transport) 4 g in omega arith)
   by-transport true area false e f g = by-address (eqb-true (x .transport) 1 e)

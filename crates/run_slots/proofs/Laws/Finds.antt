@@ -9,7 +9,7 @@ use lib.ListN.{length, getD, take, length-take}
 use lib.Seq.{getD-take}
 use Rattle.links.specs.declared.Chosen.{Chosen}
 use Rattle.links.specs.declared.Slot.{Slot}
-use Rattle.links.specs.Slots.{free, place}
+use Rattle.links.specs.Slots.{free}
 use Rattle.links.proofs.Laws.Search.{Looking, start, hit, pass, end}
 use Rattle.search.specs.Search.{linkOf, foundIn}
 use Rattle.search.proofs.Laws.Found.{found-at, found-none}

@@ -10,7 +10,7 @@ use base.Logic.{ent, sep, via, comm∗, assoc′, monoL, monoR}
 use base.Fml.{froom, fdies}
 use prog.Wp.{Heap, Env}
 use ghost.Atoms.{Atoms}
-use types.Kit.{Given, Item, ‵, ⋆, ⊢++, ++⊢, Goal, aim, frees, Seq, Step, step, by, _$_}
+use types.Kit.{Given, Item, ‵, ⋆, ⊢++, ++⊢, Goal, frees, Seq, Step, step, by, _$_}
 use types.Run.{free1, free0}
 
 module _ {M : Type 1} (𝓤 : URA M) (H : Heap 𝓤) where

@@ -2,17 +2,17 @@
 use mathlib.Core.WellFounded.{InvImage·wf}
 use native.Mathlib.Nat.{lt-of-lt-of-le}
 use Prim.Native.Nat.{min}
-use lib.Dec.{lit<, ltb→lt, nltb→le}
+use lib.Dec.{lit<, ltb→lt, leb→le, nltb→le}
 use lib.ListN.{length-set}
 use lib.WfN.{Nat·lt-wfRel}
-use Rattle.run_slots.proofs.Laws.Walk.{_≡_, refl, sym, _∙_, ap, subst, ℕ, _+_, _-_, _≤_, _<_, _^_, List, [], _∷_, length, set, URA, fullShare, Ty, named, mut, w64, tyInt, tyBool, tyUnit, tyPtr, tyRef, Val, vint, vptr, vunit, SProp, ent, emp, via, fst∗, id⊢, Lft, GName, Share, ftrue, fat, froom, fdies, flft, fobs, fauth, fobor, fbor, Memory, Routine, Heap, Env, Calls, Loops, WpFn, Tables, afterTurn, Atoms, sem, Fun, givenOf, tables, tablesOf, Given, Item, Sq, runs, atRet, ‵, raw, _⊛_, ⋆, _$_, _∵_, !, qed, by, move, keep, drop, use1, split, join, rewrite, fsplit, fjoin, feqI, suffices, frame, done, whole, sub, look-in, look, init, store, store-raw, forget, stop, hop, fld, from, load, lit, unit-lit, of-opd, and-then, no-more, bin, assigns, assigns-last, land, first, blocks, loops, again, exec, returns, enter, alloc1, alloc0, params1, pass1, pass0, fmOf, WpFn-mono, owns, pureI, Is, shows, uint-vals, uint-tells, uint-makes, uint-lawful, usize, RefT, pointee, sliceTy, sliceVal, MutSlice, Room, at-slice, heres, codedHoleys, slice-vals, mut-slice-tells, Held, row, place-is, elem-out, elem-put, opens-slice, closes-slice, plain, nothing, owned, Contract, Triple, calls-at, Vals, onEntry, tripleOf, entered, cited, says, Stays, stay-slice, stay-none, walkOf, ends-at, walked, goes-slice, goes-none, walk-meets, yes}
-use Rattle.run_slots.proofs.Laws.Called.{value-back}
+use Rattle.run_slots.proofs.Laws.Walk.{_≡_, refl, sym, _∙_, ap, subst, ℕ, _-_, _≤_, _<_, _^_, List, [], _∷_, length, set, URA, fullShare, Ty, named, mut, w64, tyInt, tyBool, tyUnit, tyPtr, tyRef, Val, vint, vptr, vunit, SProp, ent, emp, via, fst∗, id⊢, Lft, GName, Share, ftrue, fat, froom, fdies, flft, fobs, fauth, fobor, fbor, Memory, Routine, Heap, Env, Calls, Loops, WpFn, Tables, afterTurn, Atoms, Fun, givenOf, tables, tablesOf, Given, Item, Sq, runs, atRet, ‵, _⊛_, ⋆, _$_, _∵_, !, qed, by, move, keep, drop, split, join, rewrite, fsplit, fjoin, feqI, suffices, frame, done, whole, sub, look-in, look, init, store, store-raw, forget, stop, hop, fld, from, load, lit, unit-lit, of-opd, and-then, no-more, bin, assigns, assigns-last, land, first, blocks, loops, again, exec, returns, enter, alloc1, alloc0, params1, pass1, pass0, WpFn-mono, owns, pureI, Is, shows, uint-vals, uint-tells, usize, RefT, pointee, sliceTy, sliceVal, MutSlice, Room, at-slice, heres, codedHoleys, slice-vals, mut-slice-tells, Held, row, place-is, elem-out, elem-put, opens-slice, closes-slice, plain, owned, Contract, Triple, Vals, onEntry, tripleOf, entered, cited, says, Stays, stay-slice, stay-none, walkOf, ends-at, walked, goes-slice, goes-none, walk-meets, yes}
+use Rattle.run_slots.proofs.Laws.Data.{word, asks}
+use Rattle.run_slots.proofs.Laws.Sorts.{slot}
 use Rattle.run_slots.proofs.Laws.Clears.{none-yet, one-more, all-done}
 use Rattle.run_slots.proofs.Laws.Finds.{no-more-than}
 use Rattle.run_slots.proofs.Laws.Frees.{frees-all}
 use Rattle.run_slots.proofs.Laws.Near.{size, near, next, falls, stays-in, from-none}
 use Rattle.run_slots.proofs.Laws.Tests.{tests}
-use denote.Struct.Laws as LL
 use Rattle.links.specs.declared.Slot.{Slot}
 use Rattle.links.specs.Slots.{free}
 use Rattle.links.specs.Calls.{cleared}
@@ -34,13 +34,10 @@ abbrev stayed : Stays (clear.ended .signature .params) (clear.ended .kept)
 stayed = (stay-slice (0 ∷ []) tt (plain (λ _. T.the-row)), (stay-none (λ _. usize) yes, tt))
 
 abbrev vals : Slot → List Val
-vals = LL.vals T.the-type T′.the-laws
+vals s = slot .val s ∷ []
 
-abbrev val : Slot → Val
-val = LL.val T.the-type T′.the-laws
-
-abbrev word : Ty
-word = tyInt w64
+abbrev int : Ty
+int = tyInt w64
 
 abbrev slice : Ty
 slice = sliceTy (tyRef (named 0) mut (pointee (T.the-row .written)))
@@ -62,21 +59,6 @@ module _ {M : Type 1} (𝓤 : URA M) (H : Heap 𝓤) (A : Atoms 𝓤) (W : Given
 
     abbrev Post : Val → SProp 𝓤
     Post = walkOf 𝓤 H A clear.ended stayed (clear.clauses 𝓤 H A mem run) .post (((κ, tt), (q, tt), tt, x, at), tt)
-
-    -- what each callee's triple binds outside, and that the caller has what it asks
-    abbrev to-blank : BlankSlot .Ghost
-    to-blank = ((tt, tt, tt, tt, tt), tt)
-
-    goes-blank : ent 𝓤 (sem 𝓤 H A ftrue) (BlankSlot .pre to-blank)
-    goes-blank = qed W (‵ ftrue ∷ []) ∵ nothing ! $ move ! (1 ∷ 0 ∷ []) $ join ! $ frame ! $ done !
-
-    abbrev to-within : Within .Ghost
-    to-within = ((tt, tt, tt, (count, (length ys, tt)), (vint w64 count ∷ [], (vint w64 (length ys) ∷ [], tt))), tt)
-
-    goes-within : ent 𝓤 (sem 𝓤 H A ftrue) (Within .pre to-within)
-    goes-within =
-        qed W (‵ ftrue ∷ []) ∵ nothing ! $ owned ! usize (Is usize) (uint-makes 𝓤 H A W w64) (length ys) _ (refl, gn .0) $ fjoin ! $ owned ! usize (Is usize) (uint-makes 𝓤 H A W w64) count _ (refl, gc) $ fjoin ! $
-        move ! (1 ∷ 0 ∷ []) $ join ! $ frame ! $ done !
 
     exits : (l : List Slot) → l ≡ cleared count ys → length l ≡ length ys
         → ent 𝓤 (⋆ 𝓤 H A (‵ (fobs γ (codedHoleys T.the-row .code (heres T.the-row l))) ∷ ‵ (fbor κ (Held T.the-row (length l) b o γ)) ∷ ‵ (flft κ q) ∷ ‵ ftrue ∷ ‵ (owns (usize ∷ []) (x .1) (at .1)) ∷ [])) (Post vunit)
@@ -105,15 +87,15 @@ module _ {M : Type 1} (𝓤 : URA M) (H : Heap 𝓤) (A : Atoms 𝓤) (W : Given
       Λ = 𝓣 .Λ
 
       abbrev E : Env 𝓤 H
-      E = (tyUnit, l₀) ∷ (slice, l₁) ∷ (word, l₂) ∷ (T′.mir, l₃) ∷ (word, l₄) ∷ (word, l₅) ∷ (word, l₆) ∷ (tyBool, l₇) ∷ (word, l₈) ∷ (tyPtr, l₉) ∷ []
+      E = (tyUnit, l₀) ∷ (slice, l₁) ∷ (int, l₂) ∷ (T′.mir, l₃) ∷ (int, l₄) ∷ (int, l₅) ∷ (int, l₆) ∷ (tyBool, l₇) ∷ (int, l₈) ∷ (tyPtr, l₉) ∷ []
 
       -- the row, the open borrow, what the types own beside it, and the locals, the last first
       abbrev I : At → List (Item 𝓤)
       I t = ‵ (row T.the-row fullShare (t .l) b o) ∷ ‵ (fobor κ q (Held T.the-row (length ys) b o γ)) ∷ ‵ (fobs γ (codedHoleys T.the-row .code (heres T.the-row ys))) ∷ ‵ (fauth γ (codedHoleys T.the-row .code (heres T.the-row ys)))
           ∷ ‵ ftrue ∷ ‵ (at-slice T.the-row (x .0) (at .0)) ∷ ‵ (owns (usize ∷ []) (x .1) (at .1))
-          ∷ ‵ (froom tyPtr l₉ 0) ∷ ‵ (fdies tyPtr l₉) ∷ ‵ (froom word l₈ 0) ∷ ‵ (fdies word l₈) ∷ ‵ (froom tyBool l₇ 0) ∷ ‵ (fdies tyBool l₇) ∷ ‵ (fat fullShare word l₆ 0 (vint w64 (length ys))) ∷ ‵ (fdies word l₆)
-          ∷ ‵ (fat fullShare word l₅ 0 (vint w64 (t .i))) ∷ ‵ (fdies word l₅) ∷ ‵ (fat fullShare word l₄ 0 (vint w64 n)) ∷ ‵ (fdies word l₄) ∷ ‵ (fat fullShare T′.mir l₃ 0 (val v)) ∷ ‵ (fdies T′.mir l₃)
-          ∷ ‵ (fat fullShare word l₂ 0 (vint w64 count)) ∷ ‵ (fdies word l₂) ∷ ‵ (fat fullShare slice l₁ 0 (sliceVal (b, o) (length ys))) ∷ ‵ (fdies slice l₁) ∷ ‵ (froom tyUnit l₀ 0) ∷ ‵ (fdies tyUnit l₀) ∷ []
+          ∷ ‵ (froom tyPtr l₉ 0) ∷ ‵ (fdies tyPtr l₉) ∷ ‵ (froom int l₈ 0) ∷ ‵ (fdies int l₈) ∷ ‵ (froom tyBool l₇ 0) ∷ ‵ (fdies tyBool l₇) ∷ ‵ (fat fullShare int l₆ 0 (vint w64 (length ys))) ∷ ‵ (fdies int l₆)
+          ∷ ‵ (fat fullShare int l₅ 0 (vint w64 (t .i))) ∷ ‵ (fdies int l₅) ∷ ‵ (fat fullShare int l₄ 0 (vint w64 n)) ∷ ‵ (fdies int l₄) ∷ ‵ (fat fullShare T′.mir l₃ 0 (slot .val v)) ∷ ‵ (fdies T′.mir l₃)
+          ∷ ‵ (fat fullShare int l₂ 0 (vint w64 count)) ∷ ‵ (fdies int l₂) ∷ ‵ (fat fullShare slice l₁ 0 (sliceVal (b, o) (length ys))) ∷ ‵ (fdies slice l₁) ∷ ‵ (froom tyUnit l₀ 0) ∷ ‵ (fdies tyUnit l₀) ∷ []
 
       looping : (t₀ : At) → Sq W (I t₀) (runs C Λ E body.t-5 (atRet E Post))
       unfolding afterTurn
@@ -121,22 +103,22 @@ module _ {M : Type 1} (𝓤 : URA M) (H : Heap 𝓤) (A : Atoms 𝓤) (W : Given
           -- [the row; the open borrow; obs; auth; true; run's fact; count's; _9; …; _8; …; _7; …; _6; …; _5; …; _4; …; _3; …; _2; …; _1; …; room for _0; …]
           assigns ! (bin ! (load ! (from ! (stop !)) (look ! 15 refl)) (load ! (from ! (stop !)) (look ! 17 refl)) tt) (from ! (stop !)) (init ! 11 refl (tt, tt)) $
           tests ! (load ! (from ! (stop !)) (look ! 11 refl))
-          (λ held. let less = ltb→lt (t .i) n held in let at-ys = lt-of-lt-of-le less (no-more-than count (length ys) en) in let at-l = subst (λ (m : ℕ). t .i < m) (sym (t .same)) at-ys in let fits = near (gn .1) at-ys in
+          (λ held. let less : t .i < n = search (ltb→lt, leb→le, held) in let at-ys = lt-of-lt-of-le less (no-more-than count (length ys) en) in let at-l = subst (λ (m : ℕ). t .i < m) (sym (t .same)) at-ys in let fits = near (gn .1) at-ys in
           assigns ! (bin ! (load ! (from ! (stop !)) (look ! 15 refl)) (lit ! tt) (record { fits = fits })) (from ! (stop !)) (init ! 9 refl (tt, record { fits = fits })) $
           assigns ! (bin ! (load ! (from ! (fld ! refl (stop !))) (look-in ! 23 (sub ! 0 refl (whole !)))) (load ! (from ! (stop !)) (look ! 9 refl)) tt) (from ! (stop !)) (init ! 7 refl (tt, tt)) $
           rewrite ! 7 (λ (p : ℕ). ‵ (fat fullShare tyPtr l₉ 0 (vptr b p))) (sym (place-is size o (t .i))) refl $
-          elem-out ! T.the-row (Is T.the-row) (shows 𝓤 H A T.the-row) vals (LL.tells T.the-type T′.the-laws) fullShare (t .l) (t .i) free b o at-l (λ _.
-          assigns ! (of-opd ! (load ! (from ! (stop !)) (look ! 21 refl))) (from ! (hop ! (look ! 9 refl) (stop !))) (store-raw ! 0 refl (LL.lawful T.the-type T′.the-laws 𝓤 H A W .typed v _ gv .0)) $
-          move ! (1 ∷ []) $ drop ! $ owned ! T.the-row (Is T.the-row) (LL.makes T.the-type T′.the-plain 𝓤 H A) v _ gv $ move ! (1 ∷ 0 ∷ []) $ elem-put ! T.the-row fullShare (t .l) (t .i) v (vals v) b o at-l $
+          elem-out ! T.the-row (Is T.the-row) (shows 𝓤 H A T.the-row) vals (slot .tells) fullShare (t .l) (t .i) free b o at-l (λ _.
+          assigns ! (of-opd ! (load ! (from ! (stop !)) (look ! 21 refl))) (from ! (hop ! (look ! 9 refl) (stop !))) (store-raw ! 0 refl (slot .lawful 𝓤 H A W .typed v _ gv .0)) $
+          move ! (1 ∷ []) $ drop ! $ owned ! T.the-row (Is T.the-row) (slot .makes 𝓤 H A W) v _ gv $ move ! (1 ∷ 0 ∷ []) $ elem-put ! T.the-row fullShare (t .l) (t .i) v (vals v) b o at-l $
           assigns-last ! (bin ! (load ! (from ! (stop !)) (look ! 15 refl)) (lit ! tt) (record { fits = next (gn .0) at-ys })) (from ! (stop !)) (store ! 15 refl (tt, record { fits = next (gn .0) at-ys })) $
           forget ! 7 refl $ forget ! 9 refl $ forget ! 11 refl $
-          again ! nearer I t (record { i = t .i + 1; l = set (t .l) (t .i) v; is = one-more ys (t .l) (t .i) v ev (t .is) at-ys; same = length-set (t .l) (t .i) v ∙ t .same; most = stays-in less }) (falls less)))
-          (λ failed. exec ! C Λ E body.t-6 (atRet E Post) $
+          again ! nearer I t (record { i = _; l = set (t .l) (t .i) v; is = one-more ys (t .l) (t .i) v ev (t .is) at-ys; same = length-set (t .l) (t .i) v ∙ t .same; most = stays-in less }) (falls less)))
+          (λ failed. let over = nltb→le (t .i) n failed in exec ! C Λ E body.t-6 (atRet E Post) $
           closes-slice ! tt T.the-row ys (t .l) (t .same) b o $
           -- [obs; the borrow; the token; true; run's fact; count's; _9; …]
           assigns ! (of-opd ! (unit-lit !)) (from ! (stop !)) (init ! 24 refl (tt, tt)) $ returns ! (look ! 24 refl) $ forget ! 10 refl $ forget ! 12 refl $ forget ! 14 refl $ forget ! 16 refl $ forget ! 18 refl $ forget ! 20 refl $ forget ! 22 refl $ forget ! 24 refl $
           frees-all ! 6 refl $
-          keep ! (0 ∷ 1 ∷ 2 ∷ 3 ∷ 5 ∷ []) $ by ! (exits (t .l) (all-done ys (t .l) count n (t .i) (t .is) en (t .most) (nltb→le (t .i) n failed)) (t .same)))) t₀
+          keep ! (0 ∷ 1 ∷ 2 ∷ 3 ∷ 5 ∷ []) $ by ! (exits (t .l) (all-done ys (t .l) count n (t .i) (t .is) en (t .most) over) (t .same)))) t₀
 
     walk : (𝓣 : Tables 𝓤 H) → Triple 𝓤 (𝓣 .C blank-slot-def.name) BlankSlot → Triple 𝓤 (𝓣 .C within-def.name) Within → ent 𝓤 (onEntry 𝓤 H A clear.signature (κ, tt) (q, tt) x at) (WpFn 𝓤 H (𝓣 .C) (𝓣 .Λ) code.function (sliceVal (b, o) (length ys) ∷ vint w64 count ∷ []) Post)
     walk 𝓣 known-blank known-within =
@@ -144,19 +126,16 @@ module _ {M : Type 1} (𝓤 : URA M) (H : Heap 𝓤) (A : Atoms 𝓤) (W : Given
         alloc1 ! (λ l₀. alloc1 ! (λ l₁. alloc1 ! (λ l₂. alloc1 ! (λ l₃. alloc1 ! (λ l₄. alloc1 ! (λ l₅. alloc1 ! (λ l₆. alloc1 ! (λ l₇. alloc1 ! (λ l₈. alloc1 ! (λ l₉. alloc0 ! $ params1 ! $
         pass1 ! (init ! 16 refl (tt, (tt, (record { fits = gn .0 }, tt)))) $ pass1 ! (init ! 14 refl (tt, record { fits = gc })) $ pass0 ! $
         -- [_9; …; _8; …; _7; …; _6; …; _5; …; _4; …; _3; …; _2; …; _1; …; room for _0; …; the token; what run and count own]: blank_slot()
-        nothing ! $ use1 W (raw (BlankSlot .pre to-blank)) goes-blank $
-        calls-at ! (fmOf 𝓤 H (W .laws) 𝓣) BlankSlot known-blank to-blank (no-more !) (λ w.
-        value-back ! blank-slot.ended (blank-slot.clauses 𝓤 H A mem run) to-blank w val (LL.tells T.the-type T′.the-laws) (λ v. v ≡ free) (λ v ws. id⊢ 𝓤 _) (λ v ev gv. drop ! $
-        land ! (from ! (stop !)) (init ! 12 refl (LL.lawful T.the-type T′.the-laws 𝓤 H A W .typed v _ gv .0)) $
+        asks ! 𝓣 (blank-slot.clauses 𝓤 H A mem run) known-blank tt tt tt tt (id⊢ 𝓤 _) slot (λ v. v ≡ free) (λ v ws. id⊢ 𝓤 _) (no-more !) (λ v ev gv.
+        land ! (from ! (stop !)) (init ! 12 refl (slot .lawful 𝓤 H A W .typed v _ gv .0)) $
         -- within(count, run.len())
         assigns ! (of-opd ! (load ! (from ! (fld ! refl (stop !))) (look-in ! 16 (sub ! 1 refl (whole !))))) (from ! (stop !)) (init ! 6 refl (tt, record { fits = gn .0 })) $
-        nothing ! $ use1 W (raw (Within .pre to-within)) goes-within $
-        calls-at ! (fmOf 𝓤 H (W .laws) 𝓣) Within known-within to-within (and-then ! (load ! (from ! (stop !)) (look ! 15 refl)) (and-then ! (load ! (from ! (stop !)) (look ! 7 refl)) (no-more !))) (λ w′.
-        value-back ! within.ended (within.clauses 𝓤 H A mem run) to-within w′ (vint w64) (uint-tells w64) (λ n. n ≡ min count (length ys)) (λ n ws. id⊢ 𝓤 _) (λ n en is. drop ! $
-        land ! (from ! (stop !)) (init ! 10 refl (uint-lawful 𝓤 H A W w64 .typed n _ is .0)) $
+        asks ! 𝓣 (within.clauses 𝓤 H A mem run) known-within (count, (length ys, tt)) tt (word, (word, tt)) ((refl, gc), ((refl, gn .0), tt)) (id⊢ 𝓤 _) word (λ n. n ≡ min count (length ys)) (λ n ws. id⊢ 𝓤 _)
+        (and-then ! (load ! (from ! (stop !)) (look ! 15 refl)) (and-then ! (load ! (from ! (stop !)) (look ! 7 refl)) (no-more !))) (λ n en is.
+        land ! (from ! (stop !)) (init ! 10 refl (word .lawful 𝓤 H A W .typed n _ is .0)) $
         assigns ! (of-opd ! (lit ! tt)) (from ! (stop !)) (init ! 8 refl (tt, record { fits = lit< tt })) $
         move ! (21 ∷ []) $ fsplit ! $ fsplit ! $ move ! (1 ∷ []) $ fsplit ! $ move ! (24 ∷ []) $ split ! $ move ! (2 ∷ 3 ∷ 0 ∷ []) $ opens-slice ! tt T.the-row ys b o $
-        looping 𝓣 v ev gv n en l₀ l₁ l₂ l₃ l₄ l₅ l₆ l₇ l₈ l₉ (record { i = 0; l = ys; is = none-yet ys; same = refl; most = from-none n })))))))))))))))
+        looping 𝓣 v ev gv n en l₀ l₁ l₂ l₃ l₄ l₅ l₆ l₇ l₈ l₉ (record { i = _; l = ys; is = none-yet ys; same = refl; most = from-none n })))))))))))))
 
 pub clear-spec : {M : Type 1} → stated.statement M
 unfolding code.routine tablesOf

@@ -1,10 +1,11 @@
 -- `run_slots::record_at` meets its contract: a walk of its MIR, by hand, with a `return` inside a branch, and a call of a covered function behind it.
-use lib.Dec.{ltb→lt, nltb→le}
+use lib.Dec.{ltb→lt, leb→le, nltb→le}
 use types.Run.{returns-within}
-use Rattle.run_slots.proofs.Laws.Walk.{_≡_, refl, sym, _∙_, ℕ, _<_, _^_, List, [], _∷_, length, getD, URA, fullShare, Ty, named, imm, w64, tyInt, tyBool, tyPtr, tyRef, Val, vint, vptr, SProp, ent, emp, via, fst∗, id⊢, Lft, GName, Share, ftrue, fat, flft, Memory, Routine, Heap, Env, WpFn, Tables, Atoms, sem, Fun, givenOf, tables, tablesOf, Given, atRet, ‵, raw, _⊛_, ⋆, _$_, _∵_, !, qed, by, move, keep, drop, use1, split, join, rewrite, fsplit, fjoin, suffices, frame, done, whole, sub, look-in, look, look-raw, init, forget, stop, hop, fld, from, load, lit, of-opd, no-more, bin, assigns, land, first, branches, skips, exec, returns, enter, alloc1, alloc0, params1, pass1, pass0, fmOf, WpFn-mono, owns, Is, shows, uint-vals, uint-tells, usize, RefT, pointee, sliceTy, sliceVal, ShrSlice, Room, slice-vals, shr-slice-tells, place-is, elem-out, elem-back, looks-slice, shuts-slice, plain, nothing, owned, Contract, Triple, calls-at, Vals, onEntry, tripleOf, entered, cited, says, Stays, stay-none, stay-none-slice, walkOf, ends-at, walked, goes-none, goes-none-slice, walk-meets, yes}
-use Rattle.run_slots.proofs.Laws.Called.{value-back}
+use Rattle.run_slots.proofs.Laws.Walk.{_≡_, refl, sym, _∙_, ℕ, _<_, _^_, List, [], _∷_, length, getD, URA, fullShare, named, imm, w64, tyInt, tyBool, tyPtr, tyRef, Val, vint, vptr, SProp, ent, emp, via, fst∗, id⊢, Lft, GName, Share, ftrue, fat, flft, Memory, Routine, Heap, WpFn, Tables, Atoms, Fun, givenOf, tables, tablesOf, Given, atRet, ‵, _⊛_, ⋆, _$_, _∵_, !, qed, by, move, keep, split, join, rewrite, fsplit, fjoin, suffices, frame, done, whole, sub, look-in, look, look-raw, init, forget, stop, hop, fld, from, load, lit, of-opd, no-more, bin, assigns, land, first, branches, skips, exec, returns, enter, alloc1, alloc0, params1, pass1, pass0, WpFn-mono, owns, Is, shows, uint-vals, uint-tells, usize, RefT, pointee, sliceTy, sliceVal, ShrSlice, Room, slice-vals, shr-slice-tells, place-is, elem-out, elem-back, looks-slice, shuts-slice, plain, nothing, owned, Contract, Triple, Vals, onEntry, tripleOf, entered, cited, says, Stays, stay-none, stay-none-slice, walkOf, ends-at, walked, goes-none, goes-none-slice, walk-meets, yes}
+use Rattle.run_slots.proofs.Laws.Data.{asks}
 use Rattle.run_slots.proofs.Laws.Frees.{frees-all}
 use Rattle.run_slots.proofs.Laws.Near.{size, near}
+use Rattle.run_slots.proofs.Laws.Sorts.{slot}
 use Rattle.run_slots.proofs.Laws.Past.{getD-past}
 use denote.Struct.Laws as LL
 use Rattle.links.specs.declared.Slot.{Slot}
@@ -24,21 +25,12 @@ abbrev stayed : Stays (record-at.ended .signature .params) (record-at.ended .kep
 stayed = (stay-none-slice (0 ∷ []) tt (plain (λ _. T.the-row)) yes, (stay-none (λ _. usize) yes, tt))
 
 abbrev vals : Slot → List Val
-vals = LL.vals T.the-type T′.the-laws
-
-abbrev val : Slot → Val
-val = LL.val T.the-type T′.the-laws
+vals s = slot .val s ∷ []
 
 module _ {M : Type 1} (𝓤 : URA M) (H : Heap 𝓤) (A : Atoms 𝓤) (W : Given 𝓤 H A) (mem : Memory → SProp 𝓤) (run : Routine → Fun 𝓤) where
   -- the contract that the proof cites
   abbrev BlankSlot : Contract 𝓤
   BlankSlot = tripleOf 𝓤 H A blank-slot.signature (blank-slot.spec 𝓤 H A mem run)
-
-  abbrev to-blank : BlankSlot .Ghost
-  to-blank = ((tt, tt, tt, tt, tt), tt)
-
-  goes-blank : ent 𝓤 (sem 𝓤 H A ftrue) (BlankSlot .pre to-blank)
-  goes-blank = qed W (‵ ftrue ∷ []) ∵ nothing ! $ move ! (1 ∷ 0 ∷ []) $ join ! $ frame ! $ done !
 
   module _ (κ : Lft) (q : Share) (b o : ℕ) (γ : GName) (ys : List Slot) (i : ℕ) where
     abbrev x : RefT (List Slot) × (ℕ × Unit {0})
@@ -50,11 +42,11 @@ module _ {M : Type 1} (𝓤 : URA M) (H : Heap 𝓤) (A : Atoms 𝓤) (W : Given
     abbrev Post : Val → SProp 𝓤
     Post = walkOf 𝓤 H A record-at.ended stayed (record-at.clauses 𝓤 H A mem run) .post (((κ, tt), (q, tt), tt, x, at), tt)
 
-    exits : (r : Slot) → r ≡ getD ys i free → Is T.the-row r (vals r) → ent 𝓤 (⋆ 𝓤 H A (‵ (flft κ q) ∷ ‵ (ShrSlice (named 0) κ T.the-row .own (x .0) (at .0)) ∷ ‵ (owns (usize ∷ []) (x .1) (at .1)) ∷ [])) (Post (val r))
+    exits : (r : Slot) → r ≡ getD ys i free → Is T.the-row r (vals r) → ent 𝓤 (⋆ 𝓤 H A (‵ (flft κ q) ∷ ‵ (ShrSlice (named 0) κ T.the-row .own (x .0) (at .0)) ∷ ‵ (owns (usize ∷ []) (x .1) (at .1)) ∷ [])) (Post (slot .val r))
     exits r e g =
         qed W (‵ (flft κ q) ∷ ‵ (ShrSlice (named 0) κ T.the-row .own (x .0) (at .0)) ∷ ‵ (owns (usize ∷ []) (x .1) (at .1)) ∷ []) ∵
-        suffices ! _ (ends-at 𝓤 H A record-at.ended stayed (record-at.clauses 𝓤 H A mem run) W (((κ, tt), (q, tt), tt, x, at), tt) (val r) r (tt, (tt, tt)) (tt, (tt, tt))) $ says ! e $
-        nothing ! $ move ! (1 ∷ 0 ∷ []) $ join ! $ frame ! $ fjoin ! $ frame ! $ owned ! T.the-row (Is T.the-row) (LL.makes T.the-type T′.the-plain 𝓤 H A) r _ g $ done !
+        suffices ! _ (ends-at 𝓤 H A record-at.ended stayed (record-at.clauses 𝓤 H A mem run) W (((κ, tt), (q, tt), tt, x, at), tt) (slot .val r) r (tt, (tt, tt)) (tt, (tt, tt))) $ says ! e $
+        nothing ! $ move ! (1 ∷ 0 ∷ []) $ join ! $ frame ! $ fjoin ! $ frame ! $ owned ! T.the-row (Is T.the-row) (slot .makes 𝓤 H A W) r _ g $ done !
 
     walk : (𝓣 : Tables 𝓤 H) → Triple 𝓤 (𝓣 .C blank-slot-def.name) BlankSlot → Room T.the-row (length ys) → i < 2 ^ 64 → ent 𝓤 (onEntry 𝓤 H A record-at.signature (κ, tt) (q, tt) x at) (WpFn 𝓤 H (𝓣 .C) (𝓣 .Λ) code.function (sliceVal (b, o) (length ys) ∷ vint w64 i ∷ []) Post)
     walk 𝓣 known gn gi =
@@ -67,27 +59,25 @@ module _ {M : Type 1} (𝓤 : URA M) (H : Heap 𝓤) (A : Atoms 𝓤) (W : Given
         move ! (17 ∷ []) $ fsplit ! $ fsplit ! $ move ! (1 ∷ []) $ fsplit ! $ move ! (20 ∷ []) $ split ! $ move ! (3 ∷ 0 ∷ []) $
         -- [the fractured borrow; the token; true; res; run's fact; place's; _7; …; _6; …; _5; …; _4; …; _3; …; _2; …; _1; …; room for _0; …]
         first ! $ branches ! (load ! (from ! (stop !)) (look ! 12 refl))
-        (λ held. let l = ltb→lt i (length ys) held in let fits = near (gn .1) l in
+        (λ held. let l : i < length ys = search (ltb→lt, leb→le, held) in let fits = near (gn .1) l in
         assigns ! (bin ! (load ! (from ! (stop !)) (look ! 16 refl)) (lit ! tt) (record { fits = fits })) (from ! (stop !)) (init ! 10 refl (tt, record { fits = fits })) $
         assigns ! (bin ! (load ! (from ! (fld ! refl (stop !))) (look-in ! 18 (sub ! 0 refl (whole !)))) (load ! (from ! (stop !)) (look ! 10 refl)) tt) (from ! (stop !)) (init ! 8 refl (tt, tt)) $
         rewrite ! 8 (λ (p : ℕ). ‵ (fat fullShare tyPtr l₆ 0 (vptr b p))) (sym (place-is size o i)) refl $
-        looks-slice ! tt T.the-row (Is T.the-row) (shows 𝓤 H A T.the-row) vals (LL.tells T.the-type T′.the-laws) (LL.copy T.the-type T′.the-copy 𝓤 H A W) ys b o (λ q′.
-        elem-out ! T.the-row (Is T.the-row) (shows 𝓤 H A T.the-row) vals (LL.tells T.the-type T′.the-laws) q′ ys i free b o l (λ g. let r = getD ys i free in
-        assigns ! (of-opd ! (load ! (from ! (hop ! (look ! 11 refl) (stop !))) (look-raw ! 0 refl))) (from ! (stop !)) (init ! 9 refl (LL.lawful T.the-type T′.the-laws 𝓤 H A W .typed r _ g .0)) $
-        assigns ! (of-opd ! (load ! (from ! (stop !)) (look ! 9 refl))) (from ! (stop !)) (init ! 23 refl (LL.lawful T.the-type T′.the-laws 𝓤 H A W .typed r _ g .0)) $
+        looks-slice ! tt T.the-row (Is T.the-row) (shows 𝓤 H A T.the-row) vals (slot .tells) (LL.copy T.the-type T′.the-copy 𝓤 H A W) ys b o (λ q′.
+        elem-out ! T.the-row (Is T.the-row) (shows 𝓤 H A T.the-row) vals (slot .tells) q′ ys i free b o l (λ g. let r = getD ys i free in
+        assigns ! (of-opd ! (load ! (from ! (hop ! (look ! 11 refl) (stop !))) (look-raw ! 0 refl))) (from ! (stop !)) (init ! 9 refl (slot .lawful 𝓤 H A W .typed r _ g .0)) $
+        assigns ! (of-opd ! (load ! (from ! (stop !)) (look ! 9 refl))) (from ! (stop !)) (init ! 23 refl (slot .lawful 𝓤 H A W .typed r _ g .0)) $
         elem-back ! T.the-row q′ ys i free (vals r) b o l $ shuts-slice ! tt T.the-row q′ ys b o $
         returns-within ! Post refl (look ! 20 refl) $ forget ! 6 refl $ forget ! 8 refl $ forget ! 10 refl $ forget ! 12 refl $ forget ! 14 refl $ forget ! 16 refl $ forget ! 18 refl $ forget ! 20 refl $
         frees-all ! 6 refl $
         move ! (3 ∷ 1 ∷ []) $ fjoin ! $ move ! (3 ∷ 0 ∷ []) $ fjoin ! $ keep ! (1 ∷ 0 ∷ 3 ∷ []) $ by ! (exits r refl g))))
         (λ failed. skips ! $ exec ! (𝓣 .C) (𝓣 .Λ) E body.t-4 (atRet E Post) $
         -- past the end: blank_slot()
-        nothing ! $ use1 W (raw (BlankSlot .pre to-blank)) goes-blank $
-        calls-at ! (fmOf 𝓤 H (W .laws) 𝓣) BlankSlot known to-blank (no-more !) (λ w.
-        value-back ! blank-slot.ended (blank-slot.clauses 𝓤 H A mem run) to-blank w val (LL.tells T.the-type T′.the-laws) (λ r. r ≡ free) (λ r ws. id⊢ 𝓤 _) (λ r e g. drop ! $
-        land ! (from ! (stop !)) (init ! 20 refl (LL.lawful T.the-type T′.the-laws 𝓤 H A W .typed r _ g .0)) $
+        asks ! 𝓣 (blank-slot.clauses 𝓤 H A mem run) known tt tt tt tt (id⊢ 𝓤 _) slot (λ r. r ≡ free) (λ r ws. id⊢ 𝓤 _) (no-more !) (λ r e g.
+        land ! (from ! (stop !)) (init ! 20 refl (slot .lawful 𝓤 H A W .typed r _ g .0)) $
         returns ! (look ! 20 refl) $ forget ! 12 refl $ forget ! 14 refl $ forget ! 16 refl $ forget ! 18 refl $ forget ! 20 refl $
         frees-all ! 6 refl $
-        move ! (3 ∷ 0 ∷ []) $ fjoin ! $ move ! (3 ∷ 0 ∷ []) $ fjoin ! $ keep ! (1 ∷ 0 ∷ 3 ∷ []) $ by ! (exits r (e ∙ sym (getD-past ys i free (nltb→le i (length ys) failed))) g))))))))))))
+        move ! (3 ∷ 0 ∷ []) $ fjoin ! $ move ! (3 ∷ 0 ∷ []) $ fjoin ! $ keep ! (1 ∷ 0 ∷ 3 ∷ []) $ by ! (exits r (e ∙ sym (getD-past ys i free (nltb→le i (length ys) failed))) g)))))))))))
 
 pub record-at-spec : {M : Type 1} → stated.statement M
 unfolding code.routine tablesOf

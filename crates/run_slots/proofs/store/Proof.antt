@@ -1,11 +1,11 @@
 -- `run_slots::store` meets its contract: a walk of its MIR, by hand, with a branch. Where the place is in range the borrow is opened, one record is taken out of the row and stored to, and the borrow is closed at the list with the record in it.
-use lib.Dec.{ltb→lt, nltb→le}
+use lib.Dec.{ltb→lt, leb→le, nltb→le}
 use lib.ListN.{length-set}
-use Rattle.run_slots.proofs.Laws.Walk.{_≡_, refl, sym, ap, subst, ℕ, _<_, _^_, List, [], _∷_, length, set, URA, fullShare, Ty, named, mut, w64, tyInt, tyBool, tyUnit, tyPtr, tyRef, Val, vint, vptr, vunit, SProp, ent, emp, via, fst∗, Lft, GName, Share, ftrue, fat, froom, fdies, flft, fobs, fbor, Memory, Routine, Heap, Env, Calls, Loops, WpFn, Tables, Atoms, Fun, givenOf, tables, tablesOf, Given, Item, Sq, runs, atRet, ‵, _⊛_, ⋆, _$_, _∵_, !, qed, by, move, keep, drop, split, join, rewrite, fsplit, fjoin, feqI, suffices, frame, done, whole, sub, look-in, look, init, store-raw, forget, stop, hop, fld, from, load, lit, unit-lit, of-opd, bin, assigns, assigns-last, first, branches, skips, exec, returns, enter, alloc1, alloc0, params1, pass1, pass0, WpFn-mono, owns, pureI, Is, shows, uint-vals, uint-tells, usize, RefT, pointee, sliceTy, sliceVal, MutSlice, Room, at-slice, heres, codedHoleys, slice-vals, mut-slice-tells, Held, place-is, elem-out, elem-put, opens-slice, closes-slice, plain, owned, Vals, onEntry, tripleOf, entered, says, Stays, stay-slice, stay-none, walkOf, ends-at, walked, goes-slice, goes-none, walk-meets, yes}
+use Rattle.run_slots.proofs.Laws.Walk.{_≡_, refl, sym, ap, subst, ℕ, _<_, _^_, List, [], _∷_, length, set, URA, fullShare, Ty, named, mut, w64, tyInt, tyBool, tyUnit, tyPtr, tyRef, Val, vint, vptr, vunit, SProp, ent, emp, via, fst∗, Lft, GName, Share, ftrue, fat, froom, fdies, flft, fobs, fbor, Memory, Routine, Heap, Env, Calls, Loops, WpFn, Atoms, Fun, givenOf, tables, tablesOf, Given, Item, Sq, runs, atRet, ‵, _⊛_, ⋆, _$_, _∵_, !, qed, by, move, keep, drop, split, join, rewrite, fsplit, fjoin, feqI, suffices, frame, done, whole, sub, look-in, look, init, store-raw, forget, stop, hop, fld, from, load, lit, unit-lit, of-opd, bin, assigns, assigns-last, first, branches, skips, exec, returns, enter, alloc1, alloc0, params1, pass1, pass0, WpFn-mono, owns, pureI, Is, shows, uint-vals, uint-tells, usize, RefT, pointee, sliceTy, sliceVal, MutSlice, Room, at-slice, heres, codedHoleys, slice-vals, mut-slice-tells, Held, place-is, elem-out, elem-put, opens-slice, closes-slice, plain, owned, Vals, onEntry, tripleOf, entered, says, Stays, stay-slice, stay-none, walkOf, ends-at, walked, goes-slice, goes-none, walk-meets, yes}
 use Rattle.run_slots.proofs.Laws.Frees.{frees-all}
 use Rattle.run_slots.proofs.Laws.Near.{size, near}
+use Rattle.run_slots.proofs.Laws.Sorts.{slot}
 use Rattle.run_slots.proofs.Laws.Past.{set-past}
-use denote.Struct.Laws as LL
 use Rattle.links.specs.declared.Slot.{Slot}
 use Rattle.links.specs.Slots.{free}
 use Rattle.links.proofs.Slot as T
@@ -20,10 +20,7 @@ abbrev stayed : Stays (stores.ended .signature .params) (stores.ended .kept)
 stayed = (stay-slice (0 ∷ []) tt (plain (λ _. T.the-row)), (stay-none (λ _. usize) yes, (stay-none (λ _. T.the-row) yes, tt)))
 
 abbrev vals : Slot → List Val
-vals = LL.vals T.the-type T′.the-laws
-
-abbrev val : Slot → Val
-val = LL.val T.the-type T′.the-laws
+vals s = slot .val s ∷ []
 
 abbrev word : Ty
 word = tyInt w64
@@ -73,24 +70,24 @@ module _ {M : Type 1} (𝓤 : URA M) (H : Heap 𝓤) (A : Atoms 𝓤) (W : Given
 
   module _ (C : Calls 𝓤 H) (Λ : Loops 𝓤 H) where
     walk : Room T.the-row (length ys) → i < 2 ^ 64 → Is T.the-row v (vals v) → ent 𝓤 (onEntry 𝓤 H A stores.signature (κ, tt) (q, tt) x at)
-        (WpFn 𝓤 H C Λ code.function (sliceVal (b, o) (length ys) ∷ vint w64 i ∷ val v ∷ []) Post)
+        (WpFn 𝓤 H C Λ code.function (sliceVal (b, o) (length ys) ∷ vint w64 i ∷ slot .val v ∷ []) Post)
     walk gn gi gv =
-        qed W ((‵ (flft κ q) ⊛ ‵ ftrue) ∷ ‵ (owns (MutSlice (named 0) κ T.the-row ∷ usize ∷ T.the-row ∷ []) x at) ∷ []) ∵ enter ! C Λ code.function (sliceVal (b, o) (length ys) ∷ vint w64 i ∷ val v ∷ []) _ $
+        qed W ((‵ (flft κ q) ⊛ ‵ ftrue) ∷ ‵ (owns (MutSlice (named 0) κ T.the-row ∷ usize ∷ T.the-row ∷ []) x at) ∷ []) ∵ enter ! C Λ code.function (sliceVal (b, o) (length ys) ∷ vint w64 i ∷ slot .val v ∷ []) _ $
         alloc1 ! (λ l₀. alloc1 ! (λ l₁. alloc1 ! (λ l₂. alloc1 ! (λ l₃. alloc1 ! (λ l₄. alloc1 ! (λ l₅. alloc1 ! (λ l₆. alloc1 ! (λ l₇. let e = E C Λ gn l₀ l₁ l₂ l₃ l₄ l₅ l₆ l₇ in alloc0 ! $ params1 ! $
-        pass1 ! (init ! 12 refl (tt, (tt, (record { fits = gn .0 }, tt)))) $ pass1 ! (init ! 10 refl (tt, record { fits = gi })) $ pass1 ! (init ! 8 refl (LL.lawful T.the-type T′.the-laws 𝓤 H A W .typed v _ gv .0)) $ pass0 ! $
+        pass1 ! (init ! 12 refl (tt, (tt, (record { fits = gn .0 }, tt)))) $ pass1 ! (init ! 10 refl (tt, record { fits = gi })) $ pass1 ! (init ! 8 refl (slot .lawful 𝓤 H A W .typed v _ gv .0)) $ pass0 ! $
         assigns ! (of-opd ! (load ! (from ! (fld ! refl (stop !))) (look-in ! 12 (sub ! 1 refl (whole !))))) (from ! (stop !)) (init ! 6 refl (tt, record { fits = gn .0 })) $
         assigns ! (bin ! (load ! (from ! (stop !)) (look ! 10 refl)) (load ! (from ! (stop !)) (look ! 6 refl)) tt) (from ! (stop !)) (init ! 4 refl (tt, tt)) $
         move ! (17 ∷ []) $ fsplit ! $ fsplit ! $ move ! (1 ∷ []) $ fsplit ! $ move ! (20 ∷ []) $ split ! $ move ! (2 ∷ 3 ∷ 0 ∷ []) $
         -- [obs; the borrow; the token; true; run's fact; place's and slot's; _7; …; _6; …; _5; …; _4; …; _3; …; _2; …; _1; …; room for _0; …]
         first ! $ branches ! (load ! (from ! (stop !)) (look ! 10 refl))
-        (λ held. let l = ltb→lt i (length ys) held in let fits = near (gn .1) l in
+        (λ held. let l : i < length ys = search (ltb→lt, leb→le, held) in let fits = near (gn .1) l in
         assigns ! (bin ! (load ! (from ! (stop !)) (look ! 16 refl)) (lit ! tt) (record { fits = fits })) (from ! (stop !)) (init ! 8 refl (tt, record { fits = fits })) $
         assigns ! (bin ! (load ! (from ! (fld ! refl (stop !))) (look-in ! 18 (sub ! 0 refl (whole !)))) (load ! (from ! (stop !)) (look ! 8 refl)) tt) (from ! (stop !)) (init ! 6 refl (tt, tt)) $
         rewrite ! 6 (λ (p : ℕ). ‵ (fat fullShare tyPtr l₇ 0 (vptr b p))) (sym (place-is size o i)) refl $
-        opens-slice ! tt T.the-row ys b o $ elem-out ! T.the-row (Is T.the-row) (shows 𝓤 H A T.the-row) vals (LL.tells T.the-type T′.the-laws) fullShare ys i free b o l (λ _.
+        opens-slice ! tt T.the-row ys b o $ elem-out ! T.the-row (Is T.the-row) (shows 𝓤 H A T.the-row) vals (slot .tells) fullShare ys i free b o l (λ _.
         -- [run[place]; what it owns; the others; the open borrow; obs; auth; true; run's fact; place's and slot's; _7; …]
-        assigns-last ! (of-opd ! (load ! (from ! (stop !)) (look ! 17 refl))) (from ! (hop ! (look ! 9 refl) (stop !))) (store-raw ! 0 refl (LL.lawful T.the-type T′.the-laws 𝓤 H A W .typed v _ gv .0)) $ exec ! C Λ e body.t-4 (atRet e Post) $
-        move ! (1 ∷ []) $ drop ! $ owned ! T.the-row (Is T.the-row) (LL.makes T.the-type T′.the-plain 𝓤 H A) v _ gv $ move ! (1 ∷ 0 ∷ []) $ elem-put ! T.the-row fullShare ys i v (vals v) b o l $
+        assigns-last ! (of-opd ! (load ! (from ! (stop !)) (look ! 17 refl))) (from ! (hop ! (look ! 9 refl) (stop !))) (store-raw ! 0 refl (slot .lawful 𝓤 H A W .typed v _ gv .0)) $ exec ! C Λ e body.t-4 (atRet e Post) $
+        move ! (1 ∷ []) $ drop ! $ owned ! T.the-row (Is T.the-row) (slot .makes 𝓤 H A W) v _ gv $ move ! (1 ∷ 0 ∷ []) $ elem-put ! T.the-row fullShare ys i v (vals v) b o l $
         closes-slice ! tt T.the-row ys (set ys i v) (length-set ys i v) b o $
         forget ! 6 refl $ forget ! 8 refl $ forget ! 10 refl $ forget ! 12 refl $ forget ! 14 refl $ forget ! 16 refl $ forget ! 18 refl $ leaves C Λ gn l₀ l₁ l₂ l₃ l₄ l₅ l₆ l₇ (set ys i v) refl (length-set ys i v)))
         (λ failed. skips ! $ exec ! C Λ e body.t-4 (atRet e Post) $
@@ -102,5 +99,5 @@ store-spec 𝓤 H 𝓜 𝓖 𝓡 = let A = 𝓖 .A in let W = givenOf 𝓤 H �
     entered 𝓤 H (tripleOf 𝓤 H (𝓖 .A) stores.signature (stores.spec 𝓤 H (𝓖 .A) (𝓜 .mem) (𝓡 .run)))
     (tables 𝓤 H 𝓜 𝓡 code.env .C) (tables 𝓤 H 𝓜 𝓡 code.env .Λ) #store code.function (code.unfolded 𝓤 H 𝓜 𝓡)
     (walk-meets 𝓤 H A stores.ended stayed W (goes-slice 𝓤 H A W 1 0 tt (plain (λ _. T.the-row)), (goes-none 𝓤 H A W 1 (λ _. usize) yes (λ κs x f. refl), (goes-none 𝓤 H A W 1 (λ _. T.the-row) yes (λ κs x f. refl), tt))) c at (WpFn-mono 𝓤 H (W .laws) 𝓣 code.function)
-    (walked 𝓤 H A stores.ended stayed c at (λ κs. (slice-vals, (uint-vals w64, (vals, tt)))) (λ κs. (mut-slice-tells (named 0) (κs .0) T.the-row, (uint-tells w64, (LL.tells T.the-type T′.the-laws, tt))))
+    (walked 𝓤 H A stores.ended stayed c at (λ κs. (slice-vals, (uint-vals w64, (vals, tt)))) (λ κs. (mut-slice-tells (named 0) (κs .0) T.the-row, (uint-tells w64, (slot .tells, tt))))
     (λ κs qs bounds a g are. via 𝓤 _ (fst∗ 𝓤 _ (emp 𝓤)) (walk 𝓤 H A W (𝓜 .mem) (𝓡 .run) (κs .0) (qs .0) (a .0 .ptr .0) (a .0 .ptr .1) (a .0 .name) (a .0 .now) (a .1 .0) (a .1 .1 .0) (𝓣 .C) (𝓣 .Λ) (are .0 .0 .1) (are .1 .0 .1) (are .1 .1 .0)))))
