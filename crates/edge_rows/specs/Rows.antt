@@ -13,9 +13,13 @@ use Rattle.prefix.specs.Prefix.{noPrefix}
 use Rattle.links.specs.declared.PerhapsLink.{PerhapsLink}
 use Rattle.links.specs.declared.PerhapsLink.the-variants.{Link, Nothing}
 use Rattle.links.specs.declared.Reply.{Reply}
+use Rattle.links.specs.declared.PerhapsArea.the-variants.{Set}
 use Rattle.links.specs.declared.Settings.{Settings}
+use Rattle.links.specs.declared.Slot.{Slot}
 use Rattle.links.specs.declared.Table.{Table}
-use Rattle.links.specs.Calls.{TableCall, enable, disable, reply, startByValue}
+use Rattle.links.specs.Slots.{inUse}
+use Rattle.links.specs.Calls.{TableCall, enable, disable, setArea, setOwn, reply, startByValue}
+use Rattle.links.specs.Run.{over, freshHead, replyOver, Started, startOver}
 use Rattle.ipv6.specs.declared.PerhapsMid.{PerhapsMid}
 use Rattle.ipv6.specs.declared.PerhapsMid.the-variants.{Mid, Nothing as NoMid}
 use Rattle.ipv6.specs.Identifier.{linkLocal, midOf}
@@ -26,6 +30,7 @@ use Rattle.traffic.specs.declared.Reception.{Reception}
 use Rattle.traffic.specs.declared.Sending.{Sending}
 use Rattle.traffic.specs.Arrives.{receive}
 use Rattle.traffic.specs.Leaves.{send}
+use Rattle.traffic.specs.Run.{receiveOver, sendOver, interfaceOver}
 
 pub record Row : Type 0 where
   pub got : List ℕ
@@ -222,6 +227,35 @@ unresolved = 12 ∷ 0 ∷ 0 ∷ []
 abbrev pub unicastTo : ℕ → List ℕ
 unicastTo m = 0 ∷ 1 ∷ m ∷ []
 
+-- a run of three records, whose links are all enabled; a start over it, and which of its records are enabled then
+abbrev pub threeRecords : List Slot
+threeRecords = inUse (stop 1) ∷ inUse (stop 2) ∷ inUse (stop 3) ∷ []
+
+abbrev pub startOverOf : ℕ → ℕ → Started
+startOverOf max tvl = startOver threeRecords (record { own = 1; max = max; tvl = record { kind = tvl; flag = 1 }; dgvl = record { kind = 1; flag = 1 } })
+
+abbrev pub flags : List Slot → List ℕ
+flags [] = []
+flags (x ∷ l) = says (x .enabled) ∷ flags l
+
+-- a table over that run with this maximum: of 4 it is long enough, of 5 too short
+abbrev pub overThree : ℕ → Table
+overThree max = over (freshHead (record { own = 1; max = max; tvl = record { kind = 1; flag = 1 }; dgvl = record { kind = 1; flag = 1 } })) threeRecords
+
+-- the numbers that calls on it get; of a packet with its place
+abbrev pub callOver : ℕ → TableCall → ℕ
+callOver max c = replyOver (overThree max) c .number
+
+abbrev pub arrivingOver : ℕ → ℕ → Area → ℕ → List ℕ
+arrivingOver max source to bytes =
+    let r = receiveOver (overThree max) (record { transport = 3; source = source; class = 0; destination = Within to; packet = packet bytes }) (replicate 1294 0) .reply in
+    r .number ∷ r .place ∷ []
+
+abbrev pub leavingOver : ℕ → PerhapsMid → ℕ → ℕ → List ℕ
+leavingOver max neighbour index bytes =
+    let r = sendOver (overThree max) (record { index = record { 0 = index }; class = 0; neighbour = neighbour; nextHop = mast; packet = packet bytes }) in
+    r .number ∷ r .place ∷ []
+
 unfoldable pub rows : List Row
 rows =
     -- edge-maximum: 1 refused, 2 good, 65 good, 66 refused
@@ -315,6 +349,46 @@ rows =
     ∷ (sent (leavingOn (only (circle 5 0 0)) 2 NoMid unspecified (packet 40)) are (0 ∷ 3 ∷ 0 ∷ []))
     ∷ (sent (leavingOn (only (circle 5 0 0)) 0 NoMid unspecified (packet 40)) are (0 ∷ 4 ∷ 0 ∷ []))
     ∷ (leavingOn (only (circle 5 0 0)) 2 NoMid unspecified (packetTo (inInternet 5) 39) .number is 20)
+    -- edge-run-start: three records do for a maximum of 4, and not of 5; 1 and 30 come before 23
+    ∷ (startOverOf 4 1 .number is 0)
+    ∷ (startOverOf 5 1 .number is 23)
+    ∷ (startOverOf 4093 1 .number is 23)
+    ∷ (startOverOf 4094 1 .number is 1)
+    ∷ (startOverOf 5 2 .number is 30)
+    ∷ (startOverOf 1 1 .number is 1)
+    -- maximum - 1 records are cleared; a refused start clears none
+    ∷ (flags (startOverOf 3 1 .run) are (0 ∷ 0 ∷ 1 ∷ []))
+    ∷ (flags (startOverOf 5 1 .run) are (1 ∷ 1 ∷ 1 ∷ []))
+    -- edge-run-short: 23 behind 1 and 30, and before all else
+    ∷ (callOver 5 (enable (stopOf (rectangle 1 1 360) 1 2)) is 1)
+    ∷ (callOver 5 (enable (stopOf (rectangle 1 1 360) 2 1)) is 30)
+    ∷ (callOver 5 (enable (stopAt (rectangle 1 1 360))) is 23)
+    ∷ (callOver 5 (enable (stop 1)) is 23)
+    ∷ (callOver 5 (disable (record { 0 = 0 })) is 23)
+    ∷ (callOver 5 (disable (record { 0 = 2 })) is 23)
+    ∷ (callOver 5 (setArea (Set (rectangle 1 1 360))) is 23)
+    ∷ (callOver 5 (setOwn (2 ^ 48)) is 1)
+    ∷ (callOver 5 (setOwn 1) is 23)
+    ∷ (arrivingOver 5 (2 ^ 48) (rectangle 1 1 360) 39 are (1 ∷ 0 ∷ []))
+    ∷ (arrivingOver 5 2 (rectangle 1 1 360) 39 are (23 ∷ 0 ∷ []))
+    ∷ (leavingOver 5 (Mid (2 ^ 48)) 9 39 are (1 ∷ 0 ∷ []))
+    ∷ (leavingOver 5 NoMid 9 39 are (23 ∷ 0 ∷ []))
+    ∷ (interfaceOver (overThree 5) (record { 0 = 9 }) .number is 23)
+    -- edge-run-long: a run that is long enough answers as a table by value
+    ∷ (callOver 4 (enable (stopAt (rectangle 1 1 360))) is 2)
+    ∷ (callOver 4 (enable (stop 1)) is 4)
+    ∷ (callOver 4 (enable (stop 4)) is 6)
+    ∷ (callOver 4 (disable (record { 0 = 0 })) is 15)
+    ∷ (callOver 3 (disable (record { 0 = 4 })) is 7)
+    ∷ (callOver 4 (disable (record { 0 = 4 })) is 0)
+    ∷ (flags (replyOver (overThree 4) (disable (record { 0 = 3 })) .table .slots) are (1 ∷ 0 ∷ 1 ∷ []))
+    ∷ (arrivingOver 4 2 (circle 3 0 0) 39 are (20 ∷ 39 ∷ []))
+    ∷ (indexOrZero (receiveOver (overThree 4) (record { transport = 3; source = 2; class = 0; destination = Within (circle 3 0 0); packet = packet 40 }) (replicate 1294 0) .reply .link) is 4)
+    ∷ (indexOrZero (receiveOver (overThree 3) (record { transport = 3; source = 2; class = 0; destination = Within (circle 3 0 0); packet = packet 40 }) (replicate 1294 0) .reply .link) is 1)
+    ∷ (leavingOver 3 NoMid 4 39 are (7 ∷ 0 ∷ []))
+    ∷ (leavingOver 4 NoMid 4 40 are (0 ∷ 0 ∷ []))
+    ∷ (interfaceOver (overThree 4) (record { 0 = 9 }) .number is 7)
+    ∷ (interfaceOver (overThree 4) (record { 0 = 1 }) .number is 0)
     ∷ []
 
 unfoldable pub Edges : Type 0

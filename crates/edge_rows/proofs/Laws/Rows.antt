@@ -12,10 +12,12 @@ use Rattle.links.specs.Settings.{interfaceOk, settingsValues, groundRules, sett
 use Rattle.links.specs.Slots.{any, place}
 use Rattle.links.specs.Index.{areaAt, interfaceAt, enabledAt}
 use Rattle.links.specs.Calls.{slotRules, rules, linkAfter, tableAfter, reply, startValues, cleared, fresh, start}
+use Rattle.links.specs.Run.{rulesOver, replyOver, startRulesOver, startOver}
 use Rattle.ipv6.specs.Address.{multicast, goodHop}
 use Rattle.ipv6.specs.Packet.{forbidden, packetRules, faultPlace}
 use Rattle.traffic.specs.Arrives.{indicationValues, contentRules, choiceRules, roomRules, indicationRules, stopBy, byArea, byDestination, bySource, choose, receive}
-use Rattle.traffic.specs.Leaves.{neighbourOf, requestValues, linkRules, resolveRules, requestRules, down, send}
+use Rattle.traffic.specs.Leaves.{neighbourOf, requestValues, linkRules, resolveRules, requestRules, down, send, interfaceRules}
+use Rattle.traffic.specs.Run.{choiceRulesOver, indicationRulesOver, receiveOver, requestRulesOver, sendOver, interfaceRulesOver, interfaceOver}
 use Rattle.ipv6.specs.Identifier.{flipped, identifier, linkLocal, fromMac, midOfIdentifier, midOf}
 use Rattle.edge_rows.specs.Rows.{Row, Hold, rows, Edges}
 
@@ -34,5 +36,5 @@ by-test (r ∷ rs) h = step (same (r .got) (r .want)) refl (by-test rs) h
     step false e f h = absurd h
 
 pub edges : Edges
-unfolding Edges rows test same allZero digits number bits goodArea normalBy normal sameNumbers hasNormal sameArea agrees holdsPrefix overlap goodPrefix interfaceOk settingsValues groundRules settingsRules sameGround overlaps any place areaAt interfaceAt enabledAt slotRules rules linkAfter tableAfter reply startValues cleared fresh start multicast goodHop forbidden packetRules faultPlace flipped identifier linkLocal fromMac midOfIdentifier midOf indicationValues contentRules choiceRules roomRules indicationRules stopBy byArea byDestination bySource choose receive neighbourOf requestValues linkRules resolveRules requestRules down send
+unfolding Edges rows test same allZero digits number bits goodArea normalBy normal sameNumbers hasNormal sameArea agrees holdsPrefix overlap goodPrefix interfaceOk settingsValues groundRules settingsRules sameGround overlaps any place areaAt interfaceAt enabledAt slotRules rules linkAfter tableAfter reply startValues cleared fresh start multicast goodHop forbidden packetRules faultPlace flipped identifier linkLocal fromMac midOfIdentifier midOf indicationValues contentRules choiceRules roomRules indicationRules stopBy byArea byDestination bySource choose receive neighbourOf requestValues linkRules resolveRules requestRules down send interfaceRules rulesOver replyOver startRulesOver startOver choiceRulesOver indicationRulesOver receiveOver requestRulesOver sendOver interfaceRulesOver interfaceOver
 edges = by-test rows tt
