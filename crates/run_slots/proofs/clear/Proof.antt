@@ -1,18 +1,19 @@
 -- `run_slots::clear` meets its contract: a walk of its MIR, by hand, with a loop whose turn stores one record. The borrow is opened once, before the loop, and closed once, after it.
 use mathlib.Core.WellFounded.{InvImage·wf}
 use native.Mathlib.Nat.{lt-of-lt-of-le}
+use native.Mathlib.Omega.{arith}
 use Prim.Native.Nat.{min}
-use lib.Dec.{lit<, ltb→lt, leb→le, nltb→le}
+use lib.Dec.{lit<, ltb→lt, nltb→le}
 use lib.ListN.{length-set}
 use lib.WfN.{Nat·lt-wfRel}
-use Rattle.run_slots.proofs.Laws.Walk.{_≡_, refl, sym, _∙_, ap, subst, ℕ, _-_, _≤_, _<_, _^_, List, [], _∷_, length, set, URA, fullShare, Ty, named, mut, w64, tyInt, tyBool, tyUnit, tyPtr, tyRef, Val, vint, vptr, vunit, SProp, ent, emp, via, fst∗, id⊢, Lft, GName, Share, ftrue, fat, froom, fdies, flft, fobs, fauth, fobor, fbor, Memory, Routine, Heap, Env, Calls, Loops, WpFn, Tables, afterTurn, Atoms, Fun, givenOf, tables, tablesOf, Given, Item, Sq, runs, atRet, ‵, _⊛_, ⋆, _$_, _∵_, !, qed, by, move, keep, drop, split, join, rewrite, fsplit, fjoin, feqI, suffices, frame, done, whole, sub, look-in, look, init, store, store-raw, forget, stop, hop, fld, from, load, lit, unit-lit, of-opd, and-then, no-more, bin, assigns, assigns-last, land, first, blocks, loops, again, exec, returns, enter, alloc1, alloc0, params1, pass1, pass0, WpFn-mono, owns, pureI, Is, shows, uint-vals, uint-tells, usize, RefT, pointee, sliceTy, sliceVal, MutSlice, Room, at-slice, heres, codedHoleys, slice-vals, mut-slice-tells, Held, row, place-is, elem-out, elem-put, opens-slice, closes-slice, plain, owned, Contract, Triple, Vals, onEntry, tripleOf, entered, cited, says, Stays, stay-slice, stay-none, walkOf, ends-at, walked, goes-slice, goes-none, walk-meets, yes}
+use Rattle.run_slots.proofs.Laws.Walk.{_≡_, refl, sym, _∙_, ap, subst, ℕ, _+_, _-_, _≤_, _<_, _^_, List, [], _∷_, length, set, URA, fullShare, Ty, named, mut, w64, tyInt, tyBool, tyUnit, tyPtr, tyRef, Val, vint, vptr, vunit, SProp, ent, emp, via, fst∗, id⊢, Lft, GName, Share, ftrue, fat, froom, fdies, flft, fobs, fauth, fobor, fbor, Memory, Routine, Heap, Env, Calls, Loops, WpFn, Tables, afterTurn, Atoms, Fun, givenOf, tables, tablesOf, Given, Item, Sq, runs, atRet, ‵, _⊛_, ⋆, _$_, _∵_, !, qed, by, move, keep, drop, split, join, rewrite, fsplit, fjoin, feqI, suffices, frame, done, whole, sub, look-in, look, init, store, store-raw, forget, stop, hop, fld, from, load, lit, unit-lit, of-opd, and-then, no-more, bin, assigns, assigns-last, land, first, blocks, loops, again, exec, returns, enter, alloc1, alloc0, params1, pass1, pass0, WpFn-mono, owns, pureI, Is, shows, uint-vals, uint-tells, usize, RefT, pointee, sliceTy, sliceVal, MutSlice, Room, at-slice, heres, codedHoleys, slice-vals, mut-slice-tells, Held, row, place-is, elem-out, elem-put, opens-slice, closes-slice, plain, owned, Contract, Triple, Vals, onEntry, tripleOf, entered, cited, says, Stays, stay-slice, stay-none, walkOf, ends-at, walked, goes-slice, goes-none, walk-meets, yes}
 use Rattle.run_slots.proofs.Laws.Data.{word, asks}
 use Rattle.run_slots.proofs.Laws.Sorts.{slot}
 use Rattle.run_slots.proofs.Laws.Clears.{none-yet, one-more, all-done}
 use Rattle.run_slots.proofs.Laws.Finds.{no-more-than}
 use Rattle.run_slots.proofs.Laws.Frees.{frees-all}
-use Rattle.run_slots.proofs.Laws.Near.{size, near, next, falls, stays-in, from-none}
-use Rattle.run_slots.proofs.Laws.Tests.{tests}
+use Rattle.run_slots.proofs.Laws.Near.{size, near, falls, stays-in, from-none}
+use Rattle.run_slots.proofs.Laws.Tests.{tests, holds}
 use Rattle.links.specs.declared.Slot.{Slot}
 use Rattle.links.specs.Slots.{free}
 use Rattle.links.specs.Calls.{cleared}
@@ -103,16 +104,16 @@ module _ {M : Type 1} (𝓤 : URA M) (H : Heap 𝓤) (A : Atoms 𝓤) (W : Given
           -- [the row; the open borrow; obs; auth; true; run's fact; count's; _9; …; _8; …; _7; …; _6; …; _5; …; _4; …; _3; …; _2; …; _1; …; room for _0; …]
           assigns ! (bin ! (load ! (from ! (stop !)) (look ! 15 refl)) (load ! (from ! (stop !)) (look ! 17 refl)) tt) (from ! (stop !)) (init ! 11 refl (tt, tt)) $
           tests ! (load ! (from ! (stop !)) (look ! 11 refl))
-          (λ held. let less : t .i < n = search (ltb→lt, leb→le, held) in let at-ys = lt-of-lt-of-le less (no-more-than count (length ys) en) in let at-l = subst (λ (m : ℕ). t .i < m) (sym (t .same)) at-ys in let fits = near (gn .1) at-ys in
+          (λ held. let less : t .i < n = search (ltb→lt, held) in let at-ys = lt-of-lt-of-le less (no-more-than count (length ys) en) in let at-l = subst (λ (m : ℕ). t .i < m) (sym (t .same)) at-ys in let fits = near (gn .1) at-ys in
           assigns ! (bin ! (load ! (from ! (stop !)) (look ! 15 refl)) (lit ! tt) (record { fits = fits })) (from ! (stop !)) (init ! 9 refl (tt, record { fits = fits })) $
           assigns ! (bin ! (load ! (from ! (fld ! refl (stop !))) (look-in ! 23 (sub ! 0 refl (whole !)))) (load ! (from ! (stop !)) (look ! 9 refl)) tt) (from ! (stop !)) (init ! 7 refl (tt, tt)) $
           rewrite ! 7 (λ (p : ℕ). ‵ (fat fullShare tyPtr l₉ 0 (vptr b p))) (sym (place-is size o (t .i))) refl $
           elem-out ! T.the-row (Is T.the-row) (shows 𝓤 H A T.the-row) vals (slot .tells) fullShare (t .l) (t .i) free b o at-l (λ _.
           assigns ! (of-opd ! (load ! (from ! (stop !)) (look ! 21 refl))) (from ! (hop ! (look ! 9 refl) (stop !))) (store-raw ! 0 refl (slot .lawful 𝓤 H A W .typed v _ gv .0)) $
           move ! (1 ∷ []) $ drop ! $ owned ! T.the-row (Is T.the-row) (slot .makes 𝓤 H A W) v _ gv $ move ! (1 ∷ 0 ∷ []) $ elem-put ! T.the-row fullShare (t .l) (t .i) v (vals v) b o at-l $
-          assigns-last ! (bin ! (load ! (from ! (stop !)) (look ! 15 refl)) (lit ! tt) (record { fits = next (gn .0) at-ys })) (from ! (stop !)) (store ! 15 refl (tt, record { fits = next (gn .0) at-ys })) $
-          forget ! 7 refl $ forget ! 9 refl $ forget ! 11 refl $
-          again ! nearer I t (record { i = _; l = set (t .l) (t .i) v; is = one-more ys (t .l) (t .i) v ev (t .is) at-ys; same = length-set (t .l) (t .i) v ∙ t .same; most = stays-in less }) (falls less)))
+          assigns-last ! (bin ! (load ! (from ! (stop !)) (look ! 15 refl)) (lit ! tt) (record { fits = omega (arith, gn .1, at-ys) })) (from ! (stop !)) (store ! 15 refl (tt, record { fits = omega (arith, gn .1, at-ys) })) $
+          holds ! 15 (t .i + 1) refl $ forget ! 7 refl $ forget ! 9 refl $ forget ! 11 refl $
+          again ! nearer I t (record { i = t .i + 1; l = set (t .l) (t .i) v; is = one-more ys (t .l) (t .i) v ev (t .is) at-ys; same = length-set (t .l) (t .i) v ∙ t .same; most = stays-in less }) (falls less)))
           (λ failed. let over = nltb→le (t .i) n failed in exec ! C Λ E body.t-6 (atRet E Post) $
           closes-slice ! tt T.the-row ys (t .l) (t .same) b o $
           -- [obs; the borrow; the token; true; run's fact; count's; _9; …]
@@ -133,9 +134,9 @@ module _ {M : Type 1} (𝓤 : URA M) (H : Heap 𝓤) (A : Atoms 𝓤) (W : Given
         asks ! 𝓣 (within.clauses 𝓤 H A mem run) known-within (count, (length ys, tt)) tt (word, (word, tt)) ((refl, gc), ((refl, gn .0), tt)) (id⊢ 𝓤 _) word (λ n. n ≡ min count (length ys)) (λ n ws. id⊢ 𝓤 _)
         (and-then ! (load ! (from ! (stop !)) (look ! 15 refl)) (and-then ! (load ! (from ! (stop !)) (look ! 7 refl)) (no-more !))) (λ n en is.
         land ! (from ! (stop !)) (init ! 10 refl (word .lawful 𝓤 H A W .typed n _ is .0)) $
-        assigns ! (of-opd ! (lit ! tt)) (from ! (stop !)) (init ! 8 refl (tt, record { fits = lit< tt })) $
+        assigns ! (of-opd ! (lit ! tt)) (from ! (stop !)) (init ! 8 refl (tt, record { fits = lit< tt })) $ holds ! 8 0 refl $
         move ! (21 ∷ []) $ fsplit ! $ fsplit ! $ move ! (1 ∷ []) $ fsplit ! $ move ! (24 ∷ []) $ split ! $ move ! (2 ∷ 3 ∷ 0 ∷ []) $ opens-slice ! tt T.the-row ys b o $
-        looping 𝓣 v ev gv n en l₀ l₁ l₂ l₃ l₄ l₅ l₆ l₇ l₈ l₉ (record { i = _; l = ys; is = none-yet ys; same = refl; most = from-none n })))))))))))))
+        looping 𝓣 v ev gv n en l₀ l₁ l₂ l₃ l₄ l₅ l₆ l₇ l₈ l₉ (record { i = 0; l = ys; is = none-yet ys; same = refl; most = from-none n })))))))))))))
 
 pub clear-spec : {M : Type 1} → stated.statement M
 unfolding code.routine tablesOf

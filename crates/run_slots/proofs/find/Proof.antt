@@ -1,20 +1,19 @@
 -- `run_slots::find` meets its contract: a walk of its MIR, by hand, with a loop whose turn reads one record, calls a covered test on it, and leaves the function where the test holds.
 -- The borrow is looked into once, before the loop, and shut once on each way out.
 use native.Mathlib.Nat.{lt-of-lt-of-le}
+use native.Mathlib.Omega.{arith}
 use mathlib.Core.WellFounded.{InvImage·wf}
 use Prim.Native.Nat.{min}
 use lib.Dec.{lit<, ltb→lt, nltb→le}
 use lib.WfN.{Nat·lt-wfRel}
-use types.Run.{returns-within}
 use types.Share.{arr-parts}
-use Rattle.run_slots.proofs.Laws.Walk.{_≡_, refl, sym, _∙_, ℕ, _-_, _<_, _^_, List, [], _∷_, length, getD, take, URA, fullShare, Ty, named, imm, w64, tyInt, tyBool, tyPtr, tyRef, Val, vint, vptr, SProp, ent, emp, via, fst∗, id⊢, Lft, GName, Share, ftrue, fat, froom, fdies, flft, fres, fobor, fshr-bor, Memory, Routine, Heap, Env, Calls, Loops, WpFn, Tables, Atoms, Fun, givenOf, tables, tablesOf, afterTurn, Given, Item, Sq, runs, atRet, ‵, _⊛_, ⋆, _$_, _∵_, !, qed, by, move, keep, split, join, rewrite, fsplit, fjoin, suffices, frame, done, whole, sub, look-in, look, look-raw, init, store, forget, stop, hop, fld, from, load, lit, of-opd, and-then, no-more, bin, assigns, assigns-last, land, first, blocks, loops, again, exec, returns, enter, alloc1, alloc0, params1, pass1, pass0, WpFn-mono, owns, Is, shows, uint-vals, uint-tells, usize, RefT, shares, pointee, sliceTy, sliceVal, ShrSlice, Room, at-slice, heres, codedHoleys, slice-vals, shr-slice-tells, row, place-is, elem-out, elem-back, looks-slice, shuts-slice, plain, nothing, owned, Contract, Triple, Vals, onEntry, tripleOf, entered, cited, says, Stays, stay-none, stay-none-slice, walkOf, ends-at, walked, goes-none, goes-none-slice, walk-meets, yes}
-use contract.Monad.{factI}
+use Rattle.run_slots.proofs.Laws.Walk.{_≡_, refl, sym, _∙_, ℕ, _+_, _-_, _<_, _^_, List, [], _∷_, length, getD, take, URA, fullShare, Ty, named, imm, w64, tyInt, tyBool, tyPtr, tyRef, Val, vint, vptr, SProp, ent, emp, via, fst∗, id⊢, Lft, GName, Share, ftrue, fat, froom, fdies, flft, fres, fobor, fshr-bor, Memory, Routine, Heap, Env, Calls, Loops, WpFn, Tables, Atoms, Fun, factI, givenOf, tables, tablesOf, afterTurn, Given, Item, Sq, runs, atRet, ‵, _⊛_, ⋆, _$_, _∵_, !, qed, by, move, keep, split, join, rewrite, fsplit, fjoin, suffices, frame, done, whole, sub, look-in, look, look-raw, init, store, forget, stop, hop, fld, from, load, lit, of-opd, and-then, no-more, bin, assigns, assigns-last, land, first, blocks, loops, again, exec, returns, returns-within, enter, alloc1, alloc0, params1, pass1, pass0, WpFn-mono, owns, Is, shows, uint-vals, uint-tells, usize, RefT, shares, pointee, sliceTy, sliceVal, ShrSlice, Room, at-slice, heres, codedHoleys, slice-vals, shr-slice-tells, row, place-is, elem-out, elem-back, looks-slice, shuts-slice, plain, nothing, owned, Contract, Triple, Vals, onEntry, tripleOf, entered, cited, says, Stays, stay-none, stay-none-slice, walkOf, ends-at, walked, goes-none, goes-none-slice, walk-meets, yes}
 use Rattle.run_slots.proofs.Laws.Data.{word, truth, asks}
 use Rattle.run_slots.proofs.Laws.Sorts.{slot, chosen, wanted, found}
 use Rattle.run_slots.proofs.Laws.Finds.{Behind, began, passed, at-one, at-none, no-more-than}
 use Rattle.run_slots.proofs.Laws.Frees.{frees-all}
 use Rattle.run_slots.proofs.Laws.Near.{size, near, next, small, falls}
-use Rattle.run_slots.proofs.Laws.Tests.{tests, quits}
+use Rattle.run_slots.proofs.Laws.Tests.{tests, quits, holds}
 use denote.Struct.Laws as LL
 use Rattle.links.specs.declared.Chosen.{Chosen}
 use Rattle.links.specs.declared.Slot.{Slot}
@@ -150,9 +149,9 @@ module _ {M : Type 1} (𝓤 : URA M) (H : Heap 𝓤) (A : Atoms 𝓤) (W : Given
           frees-all ! 6 refl $
           move ! (3 ∷ 1 ∷ []) $ fjoin ! $ move ! (3 ∷ 0 ∷ []) $ fjoin ! $ keep ! (1 ∷ 0 ∷ 3 ∷ []) $ by ! (exits f (e′ ∙ at-one count ys (fits u) (t .behind) c less e yes-it) gf)))
           -- it is not: the next
-          (λ not-it. assigns-last ! (bin ! (load ! (from ! (stop !)) (look ! 21 refl)) (lit ! tt) (record { fits = next (gn .0) l })) (from ! (stop !)) (store ! 21 refl (tt, record { fits = next (gn .0) l })) $
-          forget ! 7 refl $ forget ! 9 refl $ forget ! 11 refl $ forget ! 13 refl $ forget ! 15 refl $ forget ! 19 refl $
-          again ! nearer I t (record { i = _; fits-word = next (gn .0) l; behind = passed count ys (fits u) (t .behind) less e not-it }) (falls less)))))
+          (λ not-it. assigns-last ! (bin ! (load ! (from ! (stop !)) (look ! 21 refl)) (lit ! tt) (record { fits = omega (arith, gn .1, l) })) (from ! (stop !)) (store ! 21 refl (tt, record { fits = omega (arith, gn .1, l) })) $
+          holds ! 21 (t .i + 1) refl $ forget ! 7 refl $ forget ! 9 refl $ forget ! 11 refl $ forget ! 13 refl $ forget ! 15 refl $ forget ! 19 refl $
+          again ! nearer I t (record { i = t .i + 1; fits-word = next (gn .0) l; behind = passed count ys (fits u) (t .behind) less e not-it }) (falls less)))))
           -- there is none: found_none(i, otherwise)
           (λ failed. let over = nltb→le (t .i) n failed in exec ! C Λ E body.t-5 (atRet E Post) $
           asks ! 𝓣 (found-none.clauses 𝓤 H A mem run) known-none (t .i, (c, tt)) tt (word, (chosen, tt)) ((refl, t .fits-word), (go, tt)) (id⊢ 𝓤 _) found (λ f. f ≡ foundNone (t .i) c) (λ f ws. id⊢ 𝓤 _)
@@ -174,10 +173,10 @@ module _ {M : Type 1} (𝓤 : URA M) (H : Heap 𝓤) (A : Atoms 𝓤) (W : Given
         asks ! 𝓣 (within.clauses 𝓤 H A mem run) known-within (count, (length ys, tt)) tt (word, (word, tt)) ((refl, gc), ((refl, gn .0), tt)) (id⊢ 𝓤 _) word (λ n. n ≡ min count (length ys)) (λ n ws. id⊢ 𝓤 _)
         (and-then ! (load ! (from ! (stop !)) (look ! 23 refl)) (and-then ! (load ! (from ! (stop !)) (look ! 11 refl)) (no-more !))) (λ n en is.
         land ! (from ! (stop !)) (init ! 16 refl (word .lawful 𝓤 H A W .typed n _ is .0)) $
-        assigns ! (of-opd ! (lit ! tt)) (from ! (stop !)) (init ! 14 refl (tt, record { fits = lit< tt })) $
+        assigns ! (of-opd ! (lit ! tt)) (from ! (stop !)) (init ! 14 refl (tt, record { fits = lit< tt })) $ holds ! 14 0 refl $
         move ! (29 ∷ []) $ fsplit ! $ fsplit ! $ move ! (1 ∷ []) $ fsplit ! $ move ! (32 ∷ []) $ split ! $ move ! (3 ∷ 0 ∷ []) $
         looks-slice ! tt T.the-row (Is T.the-row) (shows 𝓤 H A T.the-row) slot-vals (slot .tells) (LL.copy T.the-type T′.the-copy 𝓤 H A W) ys b o (λ q′.
-        looping 𝓣 known-wanted known-found known-none n en q′ l₀ l₁ l₂ l₃ l₄ l₅ l₆ l₇ l₈ l₉ l₁₀ l₁₁ l₁₂ l₁₃ (record { i = _; fits-word = lit< tt; behind = began count ys (fits u) en })))))))))))))))))
+        looping 𝓣 known-wanted known-found known-none n en q′ l₀ l₁ l₂ l₃ l₄ l₅ l₆ l₇ l₈ l₉ l₁₀ l₁₁ l₁₂ l₁₃ (record { i = 0; fits-word = lit< tt; behind = began count ys (fits u) en })))))))))))))))))
 
 pub find-spec : {M : Type 1} → stated.statement M
 unfolding code.routine tablesOf

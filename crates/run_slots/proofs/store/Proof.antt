@@ -1,5 +1,5 @@
 -- `run_slots::store` meets its contract: a walk of its MIR, by hand, with a branch. Where the place is in range the borrow is opened, one record is taken out of the row and stored to, and the borrow is closed at the list with the record in it.
-use lib.Dec.{ltb→lt, leb→le, nltb→le}
+use lib.Dec.{ltb→lt, nltb→le}
 use lib.ListN.{length-set}
 use Rattle.run_slots.proofs.Laws.Walk.{_≡_, refl, sym, ap, subst, ℕ, _<_, _^_, List, [], _∷_, length, set, URA, fullShare, Ty, named, mut, w64, tyInt, tyBool, tyUnit, tyPtr, tyRef, Val, vint, vptr, vunit, SProp, ent, emp, via, fst∗, Lft, GName, Share, ftrue, fat, froom, fdies, flft, fobs, fbor, Memory, Routine, Heap, Env, Calls, Loops, WpFn, Atoms, Fun, givenOf, tables, tablesOf, Given, Item, Sq, runs, atRet, ‵, _⊛_, ⋆, _$_, _∵_, !, qed, by, move, keep, drop, split, join, rewrite, fsplit, fjoin, feqI, suffices, frame, done, whole, sub, look-in, look, init, store-raw, forget, stop, hop, fld, from, load, lit, unit-lit, of-opd, bin, assigns, assigns-last, first, branches, skips, exec, returns, enter, alloc1, alloc0, params1, pass1, pass0, WpFn-mono, owns, pureI, Is, shows, uint-vals, uint-tells, usize, RefT, pointee, sliceTy, sliceVal, MutSlice, Room, at-slice, heres, codedHoleys, slice-vals, mut-slice-tells, Held, place-is, elem-out, elem-put, opens-slice, closes-slice, plain, owned, Vals, onEntry, tripleOf, entered, says, Stays, stay-slice, stay-none, walkOf, ends-at, walked, goes-slice, goes-none, walk-meets, yes}
 use Rattle.run_slots.proofs.Laws.Frees.{frees-all}
@@ -80,7 +80,7 @@ module _ {M : Type 1} (𝓤 : URA M) (H : Heap 𝓤) (A : Atoms 𝓤) (W : Given
         move ! (17 ∷ []) $ fsplit ! $ fsplit ! $ move ! (1 ∷ []) $ fsplit ! $ move ! (20 ∷ []) $ split ! $ move ! (2 ∷ 3 ∷ 0 ∷ []) $
         -- [obs; the borrow; the token; true; run's fact; place's and slot's; _7; …; _6; …; _5; …; _4; …; _3; …; _2; …; _1; …; room for _0; …]
         first ! $ branches ! (load ! (from ! (stop !)) (look ! 10 refl))
-        (λ held. let l : i < length ys = search (ltb→lt, leb→le, held) in let fits = near (gn .1) l in
+        (λ held. let l = ltb→lt i (length ys) held in let fits = near (gn .1) l in
         assigns ! (bin ! (load ! (from ! (stop !)) (look ! 16 refl)) (lit ! tt) (record { fits = fits })) (from ! (stop !)) (init ! 8 refl (tt, record { fits = fits })) $
         assigns ! (bin ! (load ! (from ! (fld ! refl (stop !))) (look-in ! 18 (sub ! 0 refl (whole !)))) (load ! (from ! (stop !)) (look ! 8 refl)) tt) (from ! (stop !)) (init ! 6 refl (tt, tt)) $
         rewrite ! 6 (λ (p : ℕ). ‵ (fat fullShare tyPtr l₇ 0 (vptr b p))) (sym (place-is size o i)) refl $
