@@ -1,6 +1,7 @@
 -- What walks by hand over a lent run share: of these only Near says something of a record, how many bytes it takes, and Sorts names the
 -- types that calls on a run take and give. Finds and Clears are what this crate's two loops keep.
 pub mod Near
+pub mod Past
 pub mod Tests
 pub mod Frees
 pub mod Called
@@ -10,8 +11,7 @@ pub mod Shared
 pub mod Again
 pub mod Local
 pub mod Over
+pub mod Passed
 pub mod Walk
 pub mod Finds
 pub mod Clears
-pub mod Passed
-pub mod Past
