@@ -1,6 +1,6 @@
 -- What a search over slots looks for, by the question asked, and what it finds in a list of slots.
 use Prim.Native.Nat.{ℕ}
-use mathlib.Core.Bool.{Bool, true, false, cond}
+use mathlib.Core.Bool.{Bool, cond}
 use mathlib.Core.List.{List}
 use lib.ListN.{getD}
 use Rattle.area.specs.declared.Area.{Area}

@@ -3,8 +3,6 @@
 use crate::Wanted;
 use links::Chosen;
 ghost use mathlib.Core.Path.{_≡_};
-ghost use mathlib.Core.Bool.{cond};
-ghost use lib.Dec.{eqb};
 ghost use Prim.Native.Nat.{_-_};
 ghost use Rattle.search.specs.Inquiry.{asking, after};
 

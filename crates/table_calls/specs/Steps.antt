@@ -1,7 +1,7 @@
 -- The calls on the table step by step: what each asks of the slots, and what it makes of the answer. What that comes to is told by
 -- `reply` of links, and over a run by `replyOver`; the laws say so.
 use Prim.Native.Nat.{ℕ, _-_}
-use mathlib.Core.Bool.{Bool, cond, not, _||_}
+use mathlib.Core.Bool.{cond, not, _||_}
 use mathlib.Core.List.{List, [], _++_}
 use lib.Dec.{eqb, ltb, leb}
 use Rattle.replies.specs.Rules.{Rule, _if_, _then_, refusal}

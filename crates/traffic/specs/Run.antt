@@ -2,7 +2,7 @@
 -- none. The rest is that of every table.
 use Prim.Native.Nat.{ℕ}
 use mathlib.Core.Path.{_≡_}
-use mathlib.Core.List.{List, [], _++_}
+use mathlib.Core.List.{List, _++_}
 use lib.ListN.{length}
 use Rattle.replies.specs.Rules.{Rule, _if_, _then_, refusal}
 use Rattle.links.specs.declared.LinkIndex.{LinkIndex}

@@ -1,16 +1,13 @@
 -- What a search of a table by value finds; and the slot of a link, by its index.
 use Prim.Native.Nat.{ℕ, _-_, min}
-use mathlib.Core.Bool.{Bool, cond, _||_}
-use lib.Dec.{eqb, leb, ltb}
-use Rattle.links.specs.declared.Interface.{Interface}
+use mathlib.Core.Bool.{Bool, cond}
+use lib.Dec.{leb, ltb}
 use Rattle.links.specs.declared.LinkIndex.{LinkIndex}
-use Rattle.links.specs.declared.Named.{Named}
 use Rattle.links.specs.declared.PerhapsArea.{PerhapsArea}
-use Rattle.links.specs.declared.PerhapsArea.the-variants.{Set, Unset}
 use Rattle.links.specs.declared.Slot.{Slot}
 use Rattle.links.specs.declared.Table.{Table}
 use Rattle.links.specs.Index.{chosen}
-use Rattle.links.specs.Slots.{tvlIndex, dgvlIndex, isFixed, placeOf, free, counted}
+use Rattle.links.specs.Slots.{dgvlIndex, isFixed, placeOf, free, counted}
 use Rattle.search.specs.declared.Found.{Found}
 use Rattle.search.specs.Search.{foundIn}
 

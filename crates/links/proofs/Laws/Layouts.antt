@@ -2,15 +2,15 @@
 use Prim.Native.Nat.{ℕ, zero, suc, _+_, _-_, _≤_}
 use native.Mathlib.Omega.{arith}
 use mathlib.Core.Path.{_≡_, refl, sym, _∙_, ap, subst}
-use mathlib.Core.Logic.{_≢_, _↔_}
-use mathlib.Core.Bool.{Bool, true, false, cond, not, _&&_}
+use mathlib.Core.Logic.{_≢_}
+use mathlib.Core.Bool.{true, false}
 use mathlib.Core.List.{List, [], _∷_}
 use lib.Dec.{leb, ltb}
 use lib.ListN.{length, take, set, getD, replicate, length-set, length-replicate}
 use lib.Seq.{getD-set-other}
 use borrow.Author.Tests.{le-leb, le-ltb, ltb-false}
 use Rattle.replies.specs.Rules.{refusal}
-use Rattle.replies.proofs.Laws.Refusals.{done-exactly, none-left, none-right}
+use Rattle.replies.proofs.Laws.Refusals.{done-exactly, none-right}
 use Rattle.links.specs.declared.Head.{Head}
 use Rattle.links.specs.declared.LinkIndex.{LinkIndex}
 use Rattle.links.specs.declared.PerhapsHead.{PerhapsHead}
@@ -22,10 +22,10 @@ use Rattle.links.specs.declared.Slot.{Slot}
 use Rattle.links.specs.declared.StartValues.{StartValues}
 use Rattle.links.specs.declared.Table.{Table}
 use Rattle.links.specs.Slots.{placeOf, free, valueSlots, inUse, counted, place, unused}
-use Rattle.links.specs.Calls.{TableCall, enable, disable, setArea, setOwn, rules, linkAfter, tableAfter, answer, reply, startOk, startValues, cleared, fresh, begin, start, startByValue, withSlot}
+use Rattle.links.specs.Calls.{TableCall, enable, disable, setArea, setOwn, rules, linkAfter, tableAfter, answer, reply, startValues, cleared, fresh, begin, start, withSlot}
 use Rattle.links.specs.Reached.{Reached, started, called}
 use Rattle.links.specs.Run.{over, headOf, tooShort, freshHead, rulesOver, replyOver, startRulesOver, beginOver, Started, startOver}
-use Rattle.links.specs.Layouts.{ReachedOver, startedOver, calledOver, ReachedInRun, Own, Touches, TouchesOwn, Alike, AnswersAlike, StartsAlike, answers, answersOver, AllAlike, none, next, LayoutsAlike}
+use Rattle.links.specs.Layouts.{ReachedOver, startedOver, calledOver, ReachedInRun, Own, TouchesOwn, Alike, AnswersAlike, StartsAlike, answers, answersOver, AllAlike, none, next, LayoutsAlike}
 use Rattle.links.proofs.Laws.Slots.{counted-with, cleared-length}
 use Rattle.links.proofs.Laws.Run.{numbered-over, as-every-table, start-long-enough, start-over-numbered, reached-long}
 

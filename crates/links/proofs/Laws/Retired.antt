@@ -1,5 +1,4 @@
 -- No link of a reached table is of a retired kind, neither a fixed one nor a stop.
-use Prim.Native.Nat.{ℕ}
 use native.Mathlib.Omega.{arith}
 use mathlib.Core.Path.{_≡_, refl}
 use mathlib.Core.Logic.{_≢_}

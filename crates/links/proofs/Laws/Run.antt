@@ -1,5 +1,5 @@
 -- A table over a run answers as every table does, unless the run is too short; and no table that calls reach has one that is.
-use Prim.Native.Nat.{ℕ, zero, suc, _-_, _≤_}
+use Prim.Native.Nat.{ℕ, _-_}
 use native.Mathlib.Omega.{arith}
 use mathlib.Core.Path.{_≡_, refl, sym, _∙_, ap}
 use mathlib.Core.Bool.{false}
@@ -13,7 +13,7 @@ use Rattle.links.specs.declared.Settings.{Settings}
 use Rattle.links.specs.declared.Slot.{Slot}
 use Rattle.links.specs.declared.StartValues.{StartValues}
 use Rattle.links.specs.declared.Table.{Table}
-use Rattle.links.specs.Settings.{midOk, settingsValues, groundRules, settingsRules}
+use Rattle.links.specs.Settings.{settingsValues, groundRules, settingsRules}
 use Rattle.links.specs.Slots.{counted}
 use Rattle.links.specs.Calls.{TableCall, enable, disable, setArea, setOwn, slotRules, rules, answer, reply, startValues}
 use Rattle.links.specs.Reached.{Reached}

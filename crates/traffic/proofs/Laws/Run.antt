@@ -6,7 +6,7 @@ use mathlib.Core.Bool.{Bool, false}
 use mathlib.Core.List.{List, [], _++_}
 use lib.Dec.{lit<}
 use lib.ListN.{length}
-use Rattle.replies.specs.Rules.{Rule, _if_, _then_, refusal}
+use Rattle.replies.specs.Rules.{_if_, _then_, refusal}
 use Rattle.replies.proofs.Laws.Refusals.{Numbered, numbered-append, passed-over}
 use Rattle.links.specs.declared.Interface.{Interface}
 use Rattle.links.specs.declared.LinkIndex.{LinkIndex}

@@ -1,5 +1,5 @@
 -- What a search of the table finds, by its index: the link of a slot is the link that its index names.
-use mathlib.Core.Path.{_≡_, refl, sym, ap}
+use mathlib.Core.Path.{_≡_, refl, sym}
 use mathlib.Core.Bool.{Bool, true, false, cond}
 use lib.ListN.{getD}
 use Rattle.links.specs.declared.Slot.{Slot}
