@@ -12,8 +12,9 @@ mod near;
 use crate::area::Area;
 use crate::arriving::Indication;
 use crate::call::{Call, Destination, GEO_ANYCAST, GEO_BROADCAST};
-use crate::listing::{up_to_the_limit, Line};
-use crate::replay::{for_each_call, Answer};
+use crate::limits::Limits;
+use crate::listing::Line;
+use crate::replay::{for_each_call, Answer, Replay};
 use crate::reply::{Refusal, DONE};
 use crate::table::{Table, DGVL};
 
@@ -156,16 +157,22 @@ impl Default for Counts {
 
 impl Counts {
     /// Counts what these lines, which list this day file, show.
-    pub fn add(&mut self, input: &[u8], lines: &[Line]) {
+    pub fn add(&mut self, limits: Limits, input: &[u8], lines: &[Line]) {
         let mut lines = lines.iter();
-        for_each_call(up_to_the_limit(input), |replay, _, call| {
-            let answer = lines.next().map(|line| line.answer);
-            let comparison = answer.and_then(|answer| Comparison::of_record(call, &answer));
-            if let (Some(table), Some(comparison)) = (replay.table(), comparison) {
-                let stops = areas_beside(table, &comparison.given);
-                self.0.iter_mut().for_each(|row| row.add(&stops, &comparison));
+        for_each_call(limits, input, |replay, _, call| {
+            if let Some(line) = lines.next() {
+                self.add_call(replay, call, &line.answer);
             }
         });
+    }
+
+    /// Counts what this answer to a record shows.
+    pub fn add_call(&mut self, replay: &Replay, call: &Call, answer: &Answer) {
+        let comparison = Comparison::of_record(call, answer);
+        if let (Some(table), Some(comparison)) = (replay.table(), comparison) {
+            let stops = areas_beside(table, &comparison.given);
+            self.0.iter_mut().for_each(|row| row.add(&stops, &comparison));
+        }
     }
 
     pub fn rows(&self) -> &[Row] {

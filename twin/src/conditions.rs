@@ -17,13 +17,12 @@
 use crate::arriving::{Indication, FRAME_HEADER_LENGTH};
 use crate::call::{Call, Destination};
 use crate::leaving::Request;
+use crate::limits::Limits;
 use crate::link::{Interface, InterfaceNumbers, RETIRED_KIND};
 use crate::mid::check_mid;
 use crate::packet::{is_multicast, Address, HEADER_LENGTH, LONGEST_PACKET, LOOPBACK, UNSPECIFIED};
 use crate::replay::LENT_TO_AN_INDICATION;
-use crate::table::{
-    StartSettings, StopSettings, Table, DGVL, FIRST_STOP, LARGEST_MAXIMUM, SMALLEST_MAXIMUM,
-};
+use crate::table::{StartSettings, StopSettings, Table, DGVL, FIRST_STOP, SMALLEST_MAXIMUM};
 
 /// A reply number, and whether its condition holds.
 type Condition = (u8, bool);
@@ -31,9 +30,9 @@ type Condition = (u8, bool);
 /// The numbers that hold of the call, in its order, where the box has this table,
 /// or none yet. None are asked of a call that is 16 there (`record-order`), nor of
 /// the calls of other kinds, whose refusals exclude each other.
-pub fn holding(table: Option<&Table>, call: &Call) -> Vec<u8> {
+pub fn holding(limits: Limits, table: Option<&Table>, call: &Call) -> Vec<u8> {
     let conditions = match (table, call) {
-        (None, Call::Start(settings)) => of_start(settings),
+        (None, Call::Start(settings)) => of_start(limits.largest_maximum, settings),
         (Some(table), Call::Enable(settings)) => of_enable(table, settings),
         (Some(_), Call::Indication(indication)) => of_indication(indication),
         (Some(table), Call::Request(request)) => of_request(table, request),
@@ -43,10 +42,10 @@ pub fn holding(table: Option<&Table>, call: &Call) -> Vec<u8> {
 }
 
 /// `start-refusals`.
-fn of_start(settings: &StartSettings) -> Vec<Condition> {
+fn of_start(largest_maximum: u64, settings: &StartSettings) -> Vec<Condition> {
     let links = [settings.tvl, settings.dgvl];
     let wide_mid = check_mid(settings.own_mid).is_err();
-    let bad_maximum = !(SMALLEST_MAXIMUM..=LARGEST_MAXIMUM).contains(&settings.maximum);
+    let bad_maximum = !(SMALLEST_MAXIMUM..=largest_maximum).contains(&settings.maximum);
     vec![
         (1, wide_mid || bad_maximum || links.iter().any(is_outside_its_lists)),
         (30, links.iter().any(|link| link.kind == RETIRED_KIND)),

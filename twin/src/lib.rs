@@ -1,6 +1,6 @@
 //! The independent twin: the rules of docs/RULES.md implemented a second time,
 //! with no look at the Rattle code, to be compared byte for byte with the
-//! proved `daylist`. Names such as `line-2` in comments are those of the rules.
+//! proved `daylist` and `dispatchlist`. Names such as `line-2` in comments are those of the rules.
 
 pub mod area;
 pub mod arriving;
@@ -8,6 +8,7 @@ pub mod call;
 pub mod ground;
 pub mod hop;
 pub mod leaving;
+pub mod limits;
 pub mod link;
 pub mod mid;
 pub mod numbers;
@@ -31,3 +32,4 @@ pub mod orders;
 pub mod pairs;
 pub mod program;
 pub mod resolving;
+pub mod thousands;

@@ -6,12 +6,14 @@
 //! the later one. So where every order is seen, no exchange goes unnoticed. The
 //! other calls have no two refusals that hold at once: a disable is 15 for the
 //! indices that always are enabled, and 7 for others.
+//!
+//! Over a run each call has 23 besides (`run-refusals`). It can't be listed, and it
+//! holds of no record (`dispatch-list`), so that `dispatchlist` has these orders too.
 
 use crate::call::{kind, Call};
 use crate::conditions::holding;
-use crate::listing::up_to_the_limit;
-use crate::replay::for_each_call;
-use crate::table::Table;
+use crate::limits::Limits;
+use crate::replay::{for_each_call, Replay};
 
 /// A reply, and the later ones of its call's order that it is given over.
 type Orders = &'static [(u8, &'static [u8])];
@@ -172,13 +174,13 @@ struct Refused<'a> {
 }
 
 impl Refused<'_> {
-    fn of_record<'a>(table: Option<&Table>, kind: u64, call: &Call<'a>) -> Option<Refused<'a>> {
+    fn of_record<'a>(replay: &Replay, kind: u64, call: &Call<'a>) -> Option<Refused<'a>> {
         let packet = match call {
             Call::Indication(indication) => Some(indication.packet),
             Call::Request(request) => Some(request.packet),
             _ => None,
         };
-        let mut holding = holding(table, call).into_iter();
+        let mut holding = holding(replay.limits(), replay.table(), call).into_iter();
         let given = holding.next()?;
         Some(Refused { kind, given, later: holding.collect(), packet })
     }
@@ -194,14 +196,17 @@ impl Default for Counts {
 }
 
 impl Counts {
-    /// Counts what a listing of this day file shows. Where 16 is listed nothing is
+    /// Counts what a listing of this day file shows.
+    pub fn add(&mut self, limits: Limits, input: &[u8]) {
+        for_each_call(limits, input, |replay, kind, call| self.add_call(replay, kind, call));
+    }
+
+    /// Counts what the listing shows of this record. Where 16 is listed nothing is
     /// counted, since it comes before the call's own refusals (`record-order`).
-    pub fn add(&mut self, input: &[u8]) {
-        for_each_call(up_to_the_limit(input), |replay, kind, call| {
-            if let Some(record) = Refused::of_record(replay.table(), kind, call) {
-                self.add_record(&record);
-            }
-        });
+    pub fn add_call(&mut self, replay: &Replay, kind: u64, call: &Call) {
+        if let Some(record) = Refused::of_record(replay, kind, call) {
+            self.add_record(&record);
+        }
     }
 
     fn add_record(&mut self, record: &Refused) {

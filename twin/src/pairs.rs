@@ -16,8 +16,10 @@ pub type Pair = (RecordKind, u8);
 /// can be done (0).
 ///
 /// Not among them: 13, since 9 comes before it and 1,294 is 1,280 + 14
-/// (`listing-lent`). In an indication 1 is left for its MIDs only, since a
-/// transport outside 1..4 is broken and the sort follows from the transport.
+/// (`listing-lent`); and 23, since the run of `dispatchlist` is long enough for every
+/// maximum (`dispatch-list`). So `daylist` and `dispatchlist` have the same pairs. In
+/// an indication 1 is left for its MIDs only, since a transport outside 1..4 is broken
+/// and the sort follows from the transport.
 ///
 /// The two kinds of requests have the same replies. In kind 7 the next hop is the
 /// packet's destination (`record-hop`), which is good where 12 is asked: :: and ::1
@@ -91,18 +93,20 @@ impl Seen {
 #[cfg(test)]
 mod tests {
     use super::*;
+    use crate::limits::DAYLIST;
+    use crate::listing::lines;
 
     #[test]
     fn the_number_of_allowed_pairs() {
         let pairs = allowed_pairs();
         assert_eq!(pairs.len(), 5 + 10 + 5 + 4 + 4 + 10 + 2 * 12 + 2);
-        assert!(pairs.iter().all(|&(_, reply)| reply != 13));
+        assert!(pairs.iter().all(|(_, reply)| ![13, 23].contains(reply)));
     }
 
     #[test]
     fn seen_pairs_are_counted() {
         let mut seen = Seen::default();
-        seen.add(&crate::listing::lines(&[3, 0, 3, 1, 9]));
+        seen.add(&lines(DAYLIST, &[3, 0, 3, 1, 9]));
         assert_eq!(seen.count((RecordKind::Known(3), 16)), 2);
         assert_eq!(seen.count((RecordKind::Unknown, 14)), 1);
         assert_eq!(seen.count((RecordKind::Known(3), 0)), 0);

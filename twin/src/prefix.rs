@@ -65,8 +65,10 @@ fn bit(bytes: &[u8; 16], place: u64) -> bool {
 }
 
 fn equal_first_bits(left: &[u8; 16], right: &[u8; 16], count: u64) -> bool {
-    // A count above 128 asks for bits that are not there.
-    count <= LONGEST_PREFIX && (0..count).all(|place| bit(left, place) == bit(right, place))
+    // All at once, since one by one takes long with thousands of stops. A count above
+    // 128 asks for bits that are not there.
+    let differing = u128::from_be_bytes(*left) ^ u128::from_be_bytes(*right);
+    count <= LONGEST_PREFIX && u64::from(differing.leading_zeros()) >= count
 }
 
 #[cfg(test)]

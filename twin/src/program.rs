@@ -20,7 +20,8 @@ pub enum Feeding {
     },
 }
 
-/// Enough for one line of every byte of the longest input; more is a fault.
+/// Enough for a line of every two bytes of the longest input, as many as the shortest
+/// record has; more is a fault.
 const MOST_OUTPUT: u64 = 4 << 20;
 /// Between pieces, so that the reader may find less than it asks for.
 const PAUSE: Duration = Duration::from_micros(20);
@@ -56,7 +57,7 @@ fn talk(
 ) -> Result<Vec<u8>, String> {
     let (stdin, stdout) = child.stdin.take().zip(child.stdout.take()).ok_or("no pipes")?;
     let input = input.to_vec();
-    // A program may stop reading at 65,536 bytes, so a failed write is no fault.
+    // A program may stop reading at its limit, so a failed write is no fault.
     thread::spawn(move || feed(stdin, &input, feeding));
     let output = output_until(stdout, deadline)?;
     let status = wait_until(child, deadline)?;

@@ -6,8 +6,9 @@ pub const DONE: u8 = 0;
 /// Every reply but 0. The value of each case is the number of the rules.
 #[derive(Clone, Copy, Debug, PartialEq, Eq)]
 pub enum Refusal {
-    /// A MID above 2^48 - 1, a maximum outside 2..65, a transport outside
-    /// 1..4, a destination of the wrong sort, a kind or flag outside its list.
+    /// A MID above 2^48 - 1, a maximum outside 2..65 (over a run 2..4,093), a
+    /// transport outside 1..4, a destination of the wrong sort, a kind or flag
+    /// outside its list.
     ValueOutsideItsList = 1,
     AreaNotGood = 2,
     PrefixNotGood = 3,
@@ -31,6 +32,9 @@ pub enum Refusal {
     VersionNot6 = 21,
     /// Payload length field + 40 is not the packet's length.
     LengthFieldWrong = 22,
+    /// Fewer records than maximum - 1. The twin's table needs no run, and no program
+    /// lists it (`dispatch-list`): it stands here to be complete.
+    RunTooShort = 23,
     /// Kind 2, NBMA.
     RetiredKind = 30,
 }
@@ -43,7 +47,7 @@ impl Refusal {
 
 /// Every refusal, in the order of the numbers.
 #[cfg(test)]
-pub const EVERY_REFUSAL: [Refusal; 19] = [
+pub const EVERY_REFUSAL: [Refusal; 20] = [
     Refusal::ValueOutsideItsList,
     Refusal::AreaNotGood,
     Refusal::PrefixNotGood,
@@ -62,6 +66,7 @@ pub const EVERY_REFUSAL: [Refusal; 19] = [
     Refusal::PacketShort,
     Refusal::VersionNot6,
     Refusal::LengthFieldWrong,
+    Refusal::RunTooShort,
     Refusal::RetiredKind,
 ];
 
@@ -72,6 +77,7 @@ mod tests {
     #[test]
     fn the_numbers_of_the_rules() {
         let numbers = EVERY_REFUSAL.map(Refusal::number);
-        assert_eq!(numbers, [1, 2, 3, 4, 5, 6, 7, 9, 10, 11, 12, 13, 14, 15, 16, 20, 21, 22, 30]);
+        let expected = [1, 2, 3, 4, 5, 6, 7, 9, 10, 11, 12, 13, 14, 15, 16, 20, 21, 22, 23, 30];
+        assert_eq!(numbers, expected);
     }
 }

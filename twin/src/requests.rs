@@ -6,7 +6,7 @@ use std::fmt::Write;
 use crate::area::Area;
 use crate::call::{Call, Destination};
 use crate::leaving::{Request, Sending};
-use crate::listing::up_to_the_limit;
+use crate::limits::Limits;
 use crate::mid::mac_text;
 use crate::replay::{for_each_call, Replay};
 use crate::reply::{Refusal, DONE};
@@ -21,10 +21,10 @@ pub struct Sent {
 }
 
 /// One for each whole request record, of kind 7 or 8, up to the first broken record.
-pub fn requests(input: &[u8]) -> Vec<Sent> {
+pub fn requests(limits: Limits, input: &[u8]) -> Vec<Sent> {
     let mut sent = Vec::new();
     let mut record = 0;
-    for_each_call(up_to_the_limit(input), |replay, _, call| {
+    for_each_call(limits, input, |replay, _, call| {
         record += 1;
         if let Call::Request(request) = call {
             sent.push(Sent { record, outcome: ask(replay, request) });

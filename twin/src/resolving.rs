@@ -4,9 +4,9 @@
 
 use crate::call::{kind, Call};
 use crate::leaving::Request;
-use crate::listing::up_to_the_limit;
+use crate::limits::Limits;
 use crate::packet::{destination_bytes, LOOPBACK, UNSPECIFIED};
-use crate::replay::for_each_call;
+use crate::replay::{for_each_call, Replay};
 use crate::reply::{Refusal, DONE};
 use crate::table::Table;
 
@@ -191,13 +191,16 @@ impl Default for Counts {
 
 impl Counts {
     /// Counts what a listing of this day file shows.
-    pub fn add(&mut self, input: &[u8]) {
-        for_each_call(up_to_the_limit(input), |replay, kind, call| {
-            let asked = replay.table().and_then(|table| Asked::of_record(table, kind, call));
-            if let Some((reply, asked)) = asked {
-                self.add_asked(reply, &asked);
-            }
-        });
+    pub fn add(&mut self, limits: Limits, input: &[u8]) {
+        for_each_call(limits, input, |replay, kind, call| self.add_call(replay, kind, call));
+    }
+
+    /// Counts what the listing shows of this record.
+    pub fn add_call(&mut self, replay: &Replay, kind: u64, call: &Call) {
+        let asked = replay.table().and_then(|table| Asked::of_record(table, kind, call));
+        if let Some((reply, asked)) = asked {
+            self.add_asked(reply, &asked);
+        }
     }
 
     fn add_asked(&mut self, reply: u8, asked: &Asked) {

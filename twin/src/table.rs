@@ -16,7 +16,10 @@ pub const DGVL: u64 = 1;
 pub const FIRST_STOP: u64 = 2;
 
 pub const SMALLEST_MAXIMUM: u64 = 2;
+/// `link-maximum`.
 pub const LARGEST_MAXIMUM: u64 = 65;
+/// `run-maximum`.
+pub const LARGEST_MAXIMUM_OVER_A_RUN: u64 = 4_093;
 
 /// What a start gives: the fixed links' kinds and flags among it.
 #[derive(Clone, Copy, Debug, PartialEq, Eq)]
@@ -65,16 +68,17 @@ impl Table {
     /// `start-refused`: a refused start returns its number and the table for own
     /// MID 0, maximum 2, fixed links of kind 1 and flag 1.
     pub fn start(settings: &StartSettings) -> (Result<(), Refusal>, Table) {
-        match Table::try_start(settings) {
+        match Table::start_up_to(LARGEST_MAXIMUM, settings) {
             Ok(table) => (Ok(()), table),
             Err(refusal) => (Err(refusal), Table::after_refused_start()),
         }
     }
 
-    /// `start-refusals`: 1, 30.
-    fn try_start(settings: &StartSettings) -> Result<Table, Refusal> {
+    /// `start-refusals`: 1, 30. Over a run they are the same but for the largest
+    /// maximum, where the run is not too short (`run-refusals`).
+    pub fn start_up_to(largest_maximum: u64, settings: &StartSettings) -> Result<Table, Refusal> {
         check_mid(settings.own_mid)?;
-        if !(SMALLEST_MAXIMUM..=LARGEST_MAXIMUM).contains(&settings.maximum) {
+        if !(SMALLEST_MAXIMUM..=largest_maximum).contains(&settings.maximum) {
             return Err(Refusal::ValueOutsideItsList);
         }
         // 1 of either link comes before 30 of the other.
@@ -117,7 +121,11 @@ impl Table {
     }
 
     fn lowest_unused_index(&self) -> Option<u64> {
-        (FIRST_STOP..=self.maximum).find(|index| !self.stops.contains_key(index))
+        // Both go up, so that the first index that differs from its key is unused. To
+        // look each of thousands up is slow.
+        let used = self.stops.keys().zip(FIRST_STOP..).take_while(|(key, index)| *key == index);
+        let lowest = FIRST_STOP + used.count() as u64;
+        (lowest <= self.maximum).then_some(lowest)
     }
 
     /// `disable-refusals`: 15, 7.

@@ -4,6 +4,7 @@ use twin::area::{Area, CIRCLE, ELLIPSE, RECTANGLE};
 use twin::arriving::Indication;
 use twin::call::{Call, Destination, GEO_ANYCAST, GEO_BROADCAST};
 use twin::leaving::Request;
+use twin::limits::DAYLIST;
 use twin::link::InterfaceNumbers;
 use twin::packet::UNSPECIFIED;
 use twin::prefix::NO_PREFIX;
@@ -152,6 +153,6 @@ fn edge_given_as_it_is_printed() {
     let request = Request { index: FIRST_STOP, class: 0, neighbour: None, next_hop, packet };
     let calls = [Call::Start(START), Call::Enable(stop(given_ellipse())), Call::Request(request)];
     let day: Vec<u8> = calls.iter().flat_map(|call| record_bytes(call).unwrap()).collect();
-    let printed = requests::print(&requests::requests(&day));
+    let printed = requests::print(&requests::requests(DAYLIST, &day));
     assert!(printed.ends_with("3 0 3 2,481374000,1800000000,5,5,77 0 40\n"), "{printed}");
 }

@@ -3,6 +3,7 @@
 use twin::area::{Area, CIRCLE};
 use twin::call::{Destination, GEO_BROADCAST, GEO_UNICAST};
 use twin::leaving::{Request, Sending};
+use twin::limits::DAYLIST;
 use twin::link::InterfaceNumbers;
 use twin::listing::listing;
 use twin::mid::link_local_address;
@@ -95,7 +96,7 @@ fn a_record_of_kind_7_with_a_packet_of_39_bytes() {
     let start = [1, 1, 2, 1, 1, 1, 1];
     let packet = &packet(link_local_address(MAST));
     let short = [&start[..], &[7, 0, 0, 0, 39], &packet[..39]].concat();
-    assert_eq!(listing(&short), "rec ans link n\n1 0 - 0\n2 20 - 0\n");
+    assert_eq!(listing(DAYLIST, &short), "rec ans link n\n1 0 - 0\n2 20 - 0\n");
     let whole = [&start[..], &[7, 0, 0, 0, 40], packet].concat();
-    assert_eq!(listing(&whole), "rec ans link n\n1 0 - 0\n2 0 0 40\n");
+    assert_eq!(listing(DAYLIST, &whole), "rec ans link n\n1 0 - 0\n2 0 0 40\n");
 }

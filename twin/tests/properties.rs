@@ -6,8 +6,9 @@ use twin::generate::requests::old_request_pieces;
 use twin::generate::themes;
 use twin::generate::{day_file, FILES_OF_A_ROUND};
 use twin::leaving::Request;
+use twin::limits::DAYLIST;
 use twin::link::Kind;
-use twin::listing::{lines, listing, print, MOST_INPUT};
+use twin::listing::{lines, listing, print};
 use twin::read::read_record;
 use twin::replay::{for_each_call, Replay};
 use twin::reply::Refusal;
@@ -68,7 +69,7 @@ fn days_of_whole_records_read_to_their_end() {
 fn refusals_change_nothing() {
     for number in 0..40 {
         let bytes = day_file(13, number);
-        let mut replay = Replay::default();
+        let mut replay = Replay::new(DAYLIST);
         for_each_record(&bytes, |offset, _| {
             let before = replay.clone();
             let (answer, _) = replay.record(&bytes, offset).unwrap();
@@ -84,7 +85,7 @@ fn refusals_change_nothing() {
 fn tables_keep_what_the_rules_say_of_them() {
     for number in 0..40 {
         let bytes = day_file(14, number);
-        let mut replay = Replay::default();
+        let mut replay = Replay::new(DAYLIST);
         for_each_record(&bytes, |offset, _| {
             replay.record(&bytes, offset).unwrap();
             let Some(table) = replay.table() else { return };
@@ -120,7 +121,7 @@ fn is_12_by_the_old_rule(table: &Table, request: &Request) -> bool {
 fn requests_of_kind_7_answer_as_before_there_were_next_hops() {
     let (mut done, mut refused) = (0, 0);
     for number in 0..100 {
-        for_each_call(&day_file(18, number), |replay, kind, call| {
+        for_each_call(DAYLIST, &day_file(18, number), |replay, kind, call| {
             let (Some(table), 7, Call::Request(request)) = (replay.table(), kind, call) else {
                 return;
             };
@@ -145,9 +146,9 @@ fn the_listing_never_panics_on_random_bytes() {
         let bytes: Vec<u8> = (0..length).map(|_| random.byte() & mask).collect();
         let started = [&[1, 5, 65, 1, 0, 3, 1], &bytes[..]].concat();
         for input in [bytes, started] {
-            let text = listing(&input);
+            let text = listing(DAYLIST, &input);
             assert!(text.starts_with("rec ans link n\n") && text.ends_with('\n'));
-            assert!(lines(&input).len() <= input.len());
+            assert!(lines(DAYLIST, &input).len() <= input.len());
         }
     }
 }
@@ -157,10 +158,10 @@ fn input_past_the_limit_counts_as_missing() {
     // The last of each round lies around the limit.
     for round in 1..30 {
         let bytes = day_file(16, round * FILES_OF_A_ROUND - 1);
-        assert!(bytes.len() >= MOST_INPUT - 1);
-        let read = &bytes[..bytes.len().min(MOST_INPUT)];
-        assert_eq!(listing(&bytes), listing(read));
-        assert_eq!(print(&lines(&bytes)), listing(&bytes));
+        assert!(bytes.len() >= DAYLIST.most_input - 1);
+        let read = DAYLIST.up_to_the_limit(&bytes);
+        assert_eq!(listing(DAYLIST, &bytes), listing(DAYLIST, read));
+        assert_eq!(print(&lines(DAYLIST, &bytes)), listing(DAYLIST, &bytes));
     }
 }
 
@@ -168,9 +169,10 @@ fn input_past_the_limit_counts_as_missing() {
 fn a_listing_ends_with_14_or_reaches_the_end() {
     for number in 0..200 {
         let bytes = day_file(17, number);
-        let read = &bytes[..bytes.len().min(MOST_INPUT)];
+        let read = DAYLIST.up_to_the_limit(&bytes);
         let whole = for_each_record(read, |_, _| ());
-        let last = lines(&bytes).last().map(|line| (line.answer.reply, line.answer.length));
+        let last =
+            lines(DAYLIST, &bytes).last().map(|line| (line.answer.reply, line.answer.length));
         if whole < read.len() {
             assert_eq!(last, Some((14, whole)));
         } else {

@@ -9,8 +9,9 @@ use twin::arriving::Indication;
 use twin::call::{kind, Call, Destination, TSB};
 use twin::generate::{day_file, FILES_OF_A_ROUND};
 use twin::leaving::Request;
+use twin::limits::DAYLIST;
 use twin::link::RETIRED_KIND;
-use twin::listing::{lines, Line, RecordKind, MOST_INPUT};
+use twin::listing::{lines, Line, RecordKind};
 use twin::mid::LARGEST_MID;
 use twin::orders::Counts;
 use twin::pairs::{allowed_pairs, Seen};
@@ -108,8 +109,8 @@ fn situations() -> Situations {
     let mut situations = Situations::default();
     for number in 0..FILES {
         let bytes = day_file(1, number);
-        let bytes = &bytes[..bytes.len().min(MOST_INPUT)];
-        let (mut replay, mut offset) = (Replay::default(), 0);
+        let bytes = DAYLIST.up_to_the_limit(&bytes);
+        let (mut replay, mut offset) = (Replay::new(DAYLIST), 0);
         while let Ok((call, behind)) = read_record(bytes, offset) {
             let before = replay.table().cloned();
             let answer = replay.call(&call);
@@ -175,7 +176,7 @@ fn the_files_reach_the_situations_of_the_rules() {
 fn the_files_reach_every_allowed_pair_and_no_other() {
     for seed in [1, 2, u64::MAX] {
         let mut seen = Seen::default();
-        (0..FILES).for_each(|number| seen.add(&lines(&day_file(seed, number))));
+        (0..FILES).for_each(|number| seen.add(&lines(DAYLIST, &day_file(seed, number))));
         let missing: Vec<_> =
             allowed_pairs().into_iter().filter(|&pair| seen.count(pair) == 0).collect();
         assert!(missing.is_empty(), "seed {seed}: {missing:?}");
@@ -187,7 +188,7 @@ fn the_files_reach_every_allowed_pair_and_no_other() {
 fn the_files_reach_every_order_and_cause() {
     for seed in [1, 2, u64::MAX] {
         let mut counts = Counts::default();
-        (0..FILES).for_each(|number| counts.add(&day_file(seed, number)));
+        (0..FILES).for_each(|number| counts.add(DAYLIST, &day_file(seed, number)));
         for (situation, count) in counts.rows() {
             let (kind, name) = (situation.kind, situation.name());
             assert!(*count > 0, "seed {seed}, kind {kind}: {name}");
@@ -209,7 +210,7 @@ fn goes_on_behind_30(lines: &[Line]) -> bool {
 #[test]
 fn a_small_share_of_the_days_goes_on_behind_a_start_of_kind_2() {
     for seed in [1, 2, u64::MAX] {
-        let days = (0..FILES).map(|number| lines(&day_file(seed, number)));
+        let days = (0..FILES).map(|number| lines(DAYLIST, &day_file(seed, number)));
         let count = days.filter(|lines| goes_on_behind_30(lines)).count() as u64;
         assert!((FILES / 25..=FILES / 8).contains(&count), "seed {seed}: {count}");
     }
@@ -222,7 +223,7 @@ fn the_files_reach_every_way_in_which_areas_are_alike() {
         let mut counts = alike::Counts::default();
         for number in 0..FILES_OF_A_ROUND {
             let day = day_file(seed, number);
-            counts.add(&day, &lines(&day));
+            counts.add(DAYLIST, &day, &lines(DAYLIST, &day));
         }
         for row in counts.rows() {
             let (caller, name) = (row.caller.name(), row.way.name());
@@ -233,6 +234,6 @@ fn the_files_reach_every_way_in_which_areas_are_alike() {
 
 #[test]
 fn the_files_are_long() {
-    let listed: usize = (0..FILES).map(|number| lines(&day_file(1, number)).len()).sum();
+    let listed: usize = (0..FILES).map(|number| lines(DAYLIST, &day_file(1, number)).len()).sum();
     assert!(listed as u64 > 100 * FILES, "{listed}");
 }

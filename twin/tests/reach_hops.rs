@@ -6,8 +6,9 @@ use std::collections::BTreeSet;
 use twin::call::{kind, Call, Destination};
 use twin::generate::{day_file, FILES_OF_A_ROUND};
 use twin::leaving::Request;
+use twin::limits::DAYLIST;
 use twin::link::Kind;
-use twin::listing::{lines, MOST_INPUT};
+use twin::listing::lines;
 use twin::mid::mid_of_address;
 use twin::numbers::read_number;
 use twin::packet::{destination_bytes, Address, HEADER_LENGTH, LOOPBACK, UNSPECIFIED};
@@ -36,7 +37,7 @@ fn sort_of(hop: &[u8]) -> &'static str {
 fn seen(look: impl Fn(&Table, u64, &Request) -> Option<String>) -> BTreeSet<String> {
     let mut seen = BTreeSet::new();
     for number in 0..3 * FILES_OF_A_ROUND {
-        for_each_call(&day_file(1, number), |replay, kind, call| {
+        for_each_call(DAYLIST, &day_file(1, number), |replay, kind, call| {
             if let (Some(table), Call::Request(request)) = (replay.table(), call) {
                 seen.extend(look(table, kind, request));
             }
@@ -155,8 +156,8 @@ fn records_that_are_broken_by_their_next_hop_or_kind() {
         let mut seen = BTreeSet::new();
         for number in 0..1_000 {
             let day = day_file(seed, number);
-            let read = &day[..day.len().min(MOST_INPUT)];
-            let last = lines(&day).last().map(|line| line.answer);
+            let read = DAYLIST.up_to_the_limit(&day);
+            let last = lines(DAYLIST, &day).last().map(|line| line.answer);
             let broken = last.filter(|answer| answer.reply == 14);
             seen.extend(broken.and_then(|answer| broken_by(&read[answer.length..])));
         }
@@ -171,7 +172,7 @@ fn records_that_are_broken_by_their_next_hop_or_kind() {
 fn the_files_reach_every_reply_by_the_next_hop() {
     for seed in [1, 2, 3, 7, 42, u64::MAX] {
         let mut counts = Counts::default();
-        (0..FILES_OF_A_ROUND).for_each(|number| counts.add(&day_file(seed, number)));
+        (0..FILES_OF_A_ROUND).for_each(|number| counts.add(DAYLIST, &day_file(seed, number)));
         for (situation, count) in counts.rows() {
             assert!(*count > 0, "seed {seed}: {}", situation.name());
         }

@@ -1,5 +1,6 @@
 //! The worked example of docs/RULES.md, `listing-example`.
 
+use twin::limits::DAYLIST;
 use twin::listing::listing;
 
 const STOP: &str = "02 00 80 D2 93 AD 03 80 A4 A7 DA 06 F4 03 00 00 00 01 01";
@@ -34,7 +35,7 @@ fn example() -> Vec<u8> {
 
 #[test]
 fn it_prints_what_the_rules_print() {
-    assert_eq!(listing(&example()), PRINTED);
+    assert_eq!(listing(DAYLIST, &example()), PRINTED);
 }
 
 #[test]
@@ -49,6 +50,6 @@ fn cut_anywhere_it_prints_the_whole_records_and_one_broken() {
         if *before < length {
             expected += &format!("{} 14 - {before}\n", count + 1);
         }
-        assert_eq!(listing(&whole[..length]), expected, "cut to {length}");
+        assert_eq!(listing(DAYLIST, &whole[..length]), expected, "cut to {length}");
     }
 }

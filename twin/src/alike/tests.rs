@@ -1,6 +1,7 @@
 use super::*;
 use crate::area::{CIRCLE, EAST_END, ELLIPSE, RECTANGLE, WEST_END};
 use crate::ground::range::{areas, ANGLES, CENTRES};
+use crate::limits::DAYLIST;
 use crate::link::InterfaceNumbers;
 use crate::listing::lines;
 use crate::prefix::{Prefix, NO_PREFIX};
@@ -40,7 +41,7 @@ fn seen_of(maximum: u64, calls: &[Call]) -> Vec<(Caller, String)> {
     let records = [&[start], calls].concat();
     let day: Vec<u8> = records.iter().flat_map(|call| record_bytes(call).unwrap()).collect();
     let mut counts = Counts::default();
-    counts.add(&day, &lines(&day));
+    counts.add(DAYLIST, &day, &lines(DAYLIST, &day));
     let seen = counts.rows().iter().filter(|row| row.count > 0);
     seen.map(|row| (row.caller, row.way.name())).collect()
 }

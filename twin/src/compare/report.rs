@@ -1,13 +1,17 @@
 //! What `compare` saw in the files, how it tells it, and its score.
 
+use super::subject::Subject;
 use crate::alike;
-use crate::call::kind;
+use crate::call::{kind, Call};
 use crate::listing::{Line, RecordKind};
 use crate::orders::Counts;
 use crate::pairs::{allowed_pairs, name_of_kind, Seen};
+use crate::replay::{for_each_call, Answer, Replay};
 use crate::resolving;
+use crate::thousands;
 
-/// Files, pairs, situations, next hops and likenesses that passed and failed.
+/// Files, pairs, situations, next hops, likenesses and what thousands of stops show,
+/// each passed or failed.
 #[derive(Default)]
 pub struct Score {
     pub passed: u64,
@@ -31,24 +35,59 @@ impl Score {
 }
 
 /// What was seen in the files.
-#[derive(Default)]
 pub struct Coverage {
+    subject: Subject,
+    records: u64,
     pairs: Seen,
     situations: Counts,
     next_hops: resolving::Counts,
     likenesses: alike::Counts,
+    thousands: thousands::Counts,
 }
 
 impl Coverage {
-    pub fn add(&mut self, input: &[u8], own_lines: &[Line]) {
-        self.pairs.add(own_lines);
-        self.situations.add(input);
-        self.next_hops.add(input);
-        self.likenesses.add(input, own_lines);
+    pub fn new(subject: Subject) -> Coverage {
+        Coverage {
+            subject,
+            records: 0,
+            pairs: Seen::default(),
+            situations: Counts::default(),
+            next_hops: resolving::Counts::default(),
+            likenesses: alike::Counts::default(),
+            thousands: thousands::Counts::default(),
+        }
+    }
+
+    /// What the file of this number shows. Pairs must be seen in the days that are made
+    /// for the program: those of `dispatchlist` are on a table that `daylist` does not
+    /// take.
+    pub fn add(&mut self, number: u64, input: &[u8], own_lines: &[Line]) {
+        let limits = self.subject.limits();
+        self.records += own_lines.len() as u64;
+        if self.subject.is_own(number) {
+            self.pairs.add(own_lines);
+        }
+        self.thousands.begin_day(input, own_lines);
+        let mut own_lines = own_lines.iter();
+        // Once for all of them, since thousands of stops take their time.
+        for_each_call(limits, input, |replay, kind, call| {
+            if let Some(line) = own_lines.next() {
+                self.add_call(replay, kind, call, &line.answer);
+            }
+        });
+    }
+
+    fn add_call(&mut self, replay: &Replay, kind: u64, call: &Call, answer: &Answer) {
+        self.situations.add_call(replay, kind, call);
+        self.next_hops.add_call(replay, kind, call);
+        self.likenesses.add_call(replay, call, answer);
+        if self.subject == Subject::Dispatchlist {
+            self.thousands.add_call(replay, kind, call, answer);
+        }
     }
 
     pub fn records(&self) -> u64 {
-        self.pairs.records()
+        self.records
     }
 
     /// Prints how often each was seen, and counts it.
@@ -57,6 +96,9 @@ impl Coverage {
         report_situations(&self.situations, score);
         report_next_hops(&self.next_hops, score);
         report_likenesses(&self.likenesses, score);
+        if self.subject == Subject::Dispatchlist {
+            report_thousands(&self.thousands, score);
+        }
     }
 }
 
@@ -92,5 +134,16 @@ fn report_likenesses(counts: &alike::Counts, score: &mut Score) {
     println!("{:<16} {:<60} {:>9}", "record", "areas compared", "count");
     for row in counts.rows() {
         score.count_seen(&format!("{:<16} {:<60}", row.caller.name(), row.way.name()), row.count);
+    }
+}
+
+fn report_thousands(counts: &thousands::Counts, score: &mut Score) {
+    println!("{:<16} {:<60} {:>9}", "record", "thousands of stops", "count");
+    for (kind, name, count) in counts.rows() {
+        let kind = name_of_kind(RecordKind::Known(kind));
+        score.count_seen(&format!("{kind:<16} {name:<60}"), count);
+    }
+    for (name, count) in counts.rows_of_days() {
+        score.count_seen(&format!("{:<16} {name:<60}", "day"), count);
     }
 }

@@ -2,7 +2,8 @@ use super::*;
 use crate::area::{Area, CIRCLE};
 use crate::call::{kind, TSB};
 use crate::generate::day_file;
-use crate::listing::{lines, up_to_the_limit, Line, RecordKind};
+use crate::limits::{DAYLIST, DISPATCHLIST};
+use crate::listing::{lines, Line, RecordKind};
 use crate::mid::LARGEST_MID;
 use crate::packet::check_packet;
 use crate::prefix::Prefix;
@@ -37,7 +38,7 @@ fn packet(to: Address) -> Vec<u8> {
 fn of_sent(table: &Table, packet: &[u8]) -> Vec<u8> {
     let next_hop = &PLAIN;
     let request = Request { index: DGVL, class: 0, neighbour: None, next_hop, packet };
-    holding(Some(table), &Call::Request(request))
+    holding(DAYLIST, Some(table), &Call::Request(request))
 }
 
 /// The lengths at which the condition of the reply holds of a request on the DGVL.
@@ -77,15 +78,30 @@ fn conditions_of_a_start() {
         (StartSettings { tvl: link(4, 1), dgvl: link(2, 1), ..START }, &[1, 30]),
         (StartSettings { maximum: 66, dgvl: link(2, 1), ..START }, &[1, 30]),
     ] {
-        assert_eq!(holding(None, &Call::Start(settings)), expected, "{settings:?}");
-        assert_eq!(holding(Some(&table(1)), &Call::Start(settings)), [], "a second one is 16");
+        assert_eq!(holding(DAYLIST, None, &Call::Start(settings)), expected, "{settings:?}");
+        assert_eq!(
+            holding(DAYLIST, Some(&table(1)), &Call::Start(settings)),
+            [],
+            "a second one is 16"
+        );
+    }
+    for (maximum, by_daylist, by_dispatchlist) in [
+        (1, &[1][..], &[1][..]),
+        (65, &[], &[]),
+        (66, &[1], &[]),
+        (4_093, &[1], &[]),
+        (4_094, &[1], &[1]),
+    ] {
+        let start = Call::Start(StartSettings { maximum, ..START });
+        assert_eq!(holding(DAYLIST, None, &start), by_daylist);
+        assert_eq!(holding(DISPATCHLIST, None, &start), by_dispatchlist);
     }
 }
 
 #[test]
 fn conditions_of_an_enable() {
     let mut full = table(1);
-    assert_eq!(holding(Some(&full), &Call::Enable(stop())), []);
+    assert_eq!(holding(DAYLIST, Some(&full), &Call::Enable(stop())), []);
     full.enable(&stop()).unwrap();
     let retired = InterfaceNumbers { kind: 2, flag: 0 };
     let also_bad_flag = InterfaceNumbers { flag: 2, ..retired };
@@ -107,8 +123,16 @@ fn conditions_of_an_enable() {
             &[1, 30, 2, 3, 5, 6],
         ),
     ] {
-        assert_eq!(holding(Some(&full), &Call::Enable(settings)), expected, "{settings:?}");
-        assert_eq!(holding(None, &Call::Enable(settings)), [], "before the start it is 16");
+        assert_eq!(
+            holding(DAYLIST, Some(&full), &Call::Enable(settings)),
+            expected,
+            "{settings:?}"
+        );
+        assert_eq!(
+            holding(DAYLIST, None, &Call::Enable(settings)),
+            [],
+            "before the start it is 16"
+        );
     }
 }
 
@@ -121,8 +145,11 @@ fn conditions_of_traffic_do_not_hide_each_other() {
     let destination = Destination::Nothing;
     let indication =
         Indication { transport: TSB, source: u64::MAX, class: 0, destination, packet: &long };
-    assert_eq!(holding(Some(&table), &Call::Indication(indication)), [1, 9, 21, 22, 10, 13]);
-    assert_eq!(holding(Some(&table), &Call::Disable(0)), []);
+    assert_eq!(
+        holding(DAYLIST, Some(&table), &Call::Indication(indication)),
+        [1, 9, 21, 22, 10, 13]
+    );
+    assert_eq!(holding(DAYLIST, Some(&table), &Call::Disable(0)), []);
 }
 
 #[test]
@@ -144,7 +171,7 @@ fn a_bad_next_hop_is_12_beside_each_other_reply() {
         (9, 1, Some(u64::MAX), &UNSPECIFIED, &[1, 7, 12]),
     ] {
         let request = Request { index, class: 0, neighbour, next_hop, packet: &good };
-        let held = holding(Some(&table(flag)), &Call::Request(request));
+        let held = holding(DAYLIST, Some(&table(flag)), &Call::Request(request));
         assert_eq!(held, expected, "{next_hop:02x?}");
     }
 }
@@ -170,14 +197,14 @@ fn the_first_that_holds_is_listed() {
     let kinds = [kind::START, kind::ENABLE, kind::INDICATION, kind::OLD_REQUEST, kind::REQUEST];
     for number in 0..100 {
         let day = day_file(21, number);
-        let mut listed = lines(&day).into_iter();
-        for_each_call(up_to_the_limit(&day), |replay, _, call| {
+        let mut listed = lines(DAYLIST, &day).into_iter();
+        for_each_call(DAYLIST, &day, |replay, _, call| {
             let Line { kind, answer } = listed.next().unwrap();
             let asked = kinds.map(RecordKind::Known).contains(&kind);
             if !asked || answer.reply == Refusal::StartOutOfPlace.number() {
                 return;
             }
-            let first = holding(replay.table(), call).first().copied();
+            let first = holding(DAYLIST, replay.table(), call).first().copied();
             assert_eq!(answer.reply, first.unwrap_or(0), "file {number}");
         });
     }

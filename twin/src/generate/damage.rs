@@ -9,6 +9,7 @@ use super::requests::old_request_pieces;
 use super::themes;
 use super::values::{alias, wide_alias};
 use crate::call::{kind, Call};
+use crate::listing::RecordKind;
 use crate::numbers::number_bytes;
 use crate::read::read_record;
 use crate::write::{record_pieces, Piece};
@@ -22,12 +23,37 @@ struct BrokenRecord {
 /// A whole day in whose midst, or before whose start, stands a broken record.
 pub fn damaged(mut random: Random) -> Vec<u8> {
     let day = themes::any(Random::new(random.number()));
-    let places = day.offsets();
     let place = match random.percent(10) {
         true => 0,
-        false => random.pick(&places[places.len() / 3..]),
+        false => late_place(&mut random, &day),
     };
     let broken = broken_record(&mut random, &day);
+    with_broken_record(&day, place, broken)
+}
+
+/// The day with a broken record of this kind in its midst, or with one that shows no
+/// kind.
+pub fn damaged_in_kind(random: &mut Random, day: &Day, damaged: RecordKind) -> Vec<u8> {
+    let broken = match damaged {
+        RecordKind::Unknown => unknown_kind_of_whole_record(random, day),
+        RecordKind::Unreadable => unreadable_kind(random),
+        RecordKind::Known(wanted) => match random.below(3) {
+            0 => cut(random, day, wanted),
+            1 => number_replaced(random, day, wanted, overlong),
+            _ => number_replaced(random, day, wanted, too_large),
+        },
+    };
+    let place = late_place(random, day);
+    with_broken_record(day, place, broken)
+}
+
+/// The offset of a record behind the first third of them.
+fn late_place(random: &mut Random, day: &Day) -> usize {
+    let places = day.offsets();
+    random.pick(&places[places.len() / 3..])
+}
+
+fn with_broken_record(day: &Day, place: usize, broken: BrokenRecord) -> Vec<u8> {
     let mut bytes = day.bytes()[..place].to_vec();
     bytes.extend(broken.bytes);
     if !broken.must_be_last {
@@ -41,9 +67,18 @@ fn broken_record(random: &mut Random, day: &Day) -> BrokenRecord {
         0 | 1 => unknown_kind(random),
         2..=4 => unknown_kind_of_whole_record(random, day),
         5 => unreadable_kind(random),
-        6..=8 => cut(random, day),
-        9..=11 => number_replaced(random, day, overlong),
-        12..=14 => number_replaced(random, day, too_large),
+        6..=8 => {
+            let wanted = any_kind(random);
+            cut(random, day, wanted)
+        }
+        9..=11 => {
+            let wanted = any_kind(random);
+            number_replaced(random, day, wanted, overlong)
+        }
+        12..=14 => {
+            let wanted = any_kind(random);
+            number_replaced(random, day, wanted, too_large)
+        }
         15 => number_cut(random, day),
         16 | 17 => packet_beyond_the_end(random, day),
         18 | 19 => hop::cut(random, day),
@@ -129,9 +164,9 @@ fn too_large(random: &mut Random, number: u64) -> Vec<u8> {
 fn number_replaced(
     random: &mut Random,
     day: &Day,
+    wanted: u64,
     wrong: fn(&mut Random, u64) -> Vec<u8>,
 ) -> BrokenRecord {
-    let wanted = any_kind(random);
     let pieces = pieces_of_kind(random, day, wanted);
     let place = random.pick(&number_places(&pieces)[1..]);
     let mut parts = encoded(&pieces);
@@ -142,8 +177,7 @@ fn number_replaced(
 }
 
 /// A record that the end of the file cuts anywhere behind its first byte.
-fn cut(random: &mut Random, day: &Day) -> BrokenRecord {
-    let wanted = any_kind(random);
+fn cut(random: &mut Random, day: &Day, wanted: u64) -> BrokenRecord {
     let mut bytes = encoded(&pieces_of_kind(random, day, wanted)).concat();
     let whole = bytes.len() as u64;
     let left = if random.percent(30) { whole - 1 } else { random.between(1, whole - 1) };
@@ -217,6 +251,7 @@ fn value_out_of_bounds(random: &mut Random, day: &Day) -> BrokenRecord {
 #[cfg(test)]
 mod tests {
     use super::*;
+    use crate::limits::DAYLIST;
     use crate::listing::lines;
     use crate::numbers::read_number;
 
@@ -244,8 +279,8 @@ mod tests {
     fn every_damaged_day_ends_with_14() {
         for seed in 0..150 {
             let bytes = damaged(Random::new(seed));
-            if bytes.len() <= crate::listing::MOST_INPUT {
-                let last = lines(&bytes).last().unwrap().answer.reply;
+            if bytes.len() <= DAYLIST.most_input {
+                let last = lines(DAYLIST, &bytes).last().unwrap().answer.reply;
                 assert_eq!(last, 14, "seed {seed}");
             }
         }

@@ -7,6 +7,7 @@ use super::{areas, prefixes, values};
 use crate::area::Area;
 use crate::arriving::Indication;
 use crate::call::{kind, Call, Destination, GEO_UNICAST, TSB};
+use crate::limits::{Limits, DAYLIST};
 use crate::link::InterfaceNumbers;
 use crate::prefix::Prefix;
 use crate::replay::{Answer, Replay};
@@ -30,9 +31,18 @@ pub struct Day {
 }
 
 impl Day {
+    /// A day for `daylist`.
     pub fn new(random: Random, bad: u64) -> Day {
-        let replay = Replay::default();
+        Day::within(DAYLIST, random, bad)
+    }
+
+    pub fn within(limits: Limits, random: Random, bad: u64) -> Day {
+        let replay = Replay::new(limits);
         Day { random, bad, long: 3, bytes: Vec::new(), offsets: Vec::new(), replay }
+    }
+
+    pub fn limits(&self) -> Limits {
+        self.replay.limits()
     }
 
     pub fn bytes(&self) -> &[u8] {
@@ -90,6 +100,12 @@ impl Day {
         areas::any(&mut self.random, &known, self.bad)
     }
 
+    /// A maximum for a start, so many percent of them refused.
+    pub fn maximum(&mut self, bad: u64) -> u64 {
+        let largest = self.limits().largest_maximum;
+        values::maximum(&mut self.random, largest, bad)
+    }
+
     /// An index for disable and request, see [`values::index`].
     pub fn index(&mut self) -> u64 {
         values::index(&mut self.random, self.replay.table())
@@ -102,7 +118,7 @@ impl Day {
         self.add(&Call::Start(StartSettings { own_mid, maximum, tvl, dgvl }))
     }
 
-    /// A start that is not refused.
+    /// A start that nothing but the maximum can refuse.
     pub fn good_start(&mut self, maximum: u64) {
         let bad = std::mem::take(&mut self.bad);
         self.start(maximum);
@@ -139,9 +155,14 @@ impl Day {
         self.indicate(transport, Destination::Area(area), &packet)
     }
 
+    /// The index of one of the enabled stops, if there is one.
+    pub fn enabled_index(&mut self) -> Option<u64> {
+        values::enabled_index(&mut self.random, self.replay.table())
+    }
+
     /// Disables one of the enabled stops, if there is one.
     pub fn disable_one(&mut self) {
-        if let Some(index) = values::enabled_index(&mut self.random, self.replay.table()) {
+        if let Some(index) = self.enabled_index() {
             self.add(&Call::Disable(index));
         }
     }
@@ -173,7 +194,7 @@ impl Day {
     pub fn any_of_kind(&mut self, wanted: u64) -> Answer {
         match wanted {
             kind::START => {
-                let maximum = values::maximum(&mut self.random, self.bad);
+                let maximum = self.maximum(self.bad);
                 self.start(maximum)
             }
             kind::ENABLE => {

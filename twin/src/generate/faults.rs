@@ -12,7 +12,7 @@ use crate::link::{InterfaceNumbers, RETIRED_KIND};
 use crate::packet::{Address, LOOPBACK};
 use crate::prefix::{Prefix, NO_PREFIX};
 use crate::reply::Refusal::{self, *};
-use crate::table::{StopSettings, DGVL};
+use crate::table::{StopSettings, DGVL, FIRST_STOP, LARGEST_MAXIMUM};
 
 /// `enable-refusals`, but for 6, which each enable has besides in a full table.
 const OF_ENABLE: [Refusal; 6] = [
@@ -80,16 +80,23 @@ pub fn several_faults(random: Random) -> Day {
     day.good_start(maximum);
     day.enable_each_interface();
     for _ in 0..50 {
-        add_enable(&mut day);
-        add_indication(&mut day);
-        add_old_request(&mut day);
-        add_request(&mut day);
+        add_one_of_each(&mut day);
     }
     day
 }
 
+/// An enable, an indication and a request of each kind. There must be a stop with a
+/// prefix.
+pub fn add_one_of_each(day: &mut Day) {
+    add_enable(day);
+    add_indication(day);
+    add_old_request(day);
+    add_request(day);
+}
+
 fn add_enable(day: &mut Day) {
-    let (known_areas, known_prefixes) = (day.known_areas(), day.known_prefixes());
+    let (known_areas, mut known_prefixes) = (day.known_areas(), day.known_prefixes());
+    known_prefixes.retain(|prefix| prefix.length > 0);
     let random = &mut day.random;
     let faults = Faults::any(random, &OF_ENABLE);
     let area = faulty_area(random, &faults, &known_areas);
@@ -159,9 +166,10 @@ fn add_indication(day: &mut Day) {
 
 /// Of kind 7: the next hop is the packet's destination.
 fn add_old_request(day: &mut Day) {
+    let unused = unused_indices(day);
     let random = &mut day.random;
     let faults = Faults::any(random, &OF_REQUEST);
-    let index = faulty_index(random, &faults);
+    let index = faulty_index(random, &faults, &unused);
     let to = match faults.has(MulticastWithoutArea) {
         true => packets::multicast(random),
         false => faulty_identifier(random, &faults),
@@ -173,9 +181,10 @@ fn add_old_request(day: &mut Day) {
 
 /// Of kind 8: the next hop alone says whether it is 12.
 fn add_request(day: &mut Day) {
+    let unused = unused_indices(day);
     let random = &mut day.random;
     let faults = Faults::any(random, &OF_REQUEST);
-    let index = faulty_index(random, &faults);
+    let index = faulty_index(random, &faults, &unused);
     let to = match faults.has(MulticastWithoutArea) {
         true => packets::multicast(random),
         false => packets::address(random, &[], 0),
@@ -189,9 +198,21 @@ fn add_request(day: &mut Day) {
     day.request_by(index, neighbour, &next_hop, &packet);
 }
 
-fn faulty_index(random: &mut Random, faults: &Faults) -> u64 {
+/// Indices that no enabled link has.
+fn unused_indices(day: &Day) -> [u64; 5] {
+    match day.table() {
+        Some(table) if table.maximum > LARGEST_MAXIMUM => {
+            let above = table.maximum + 1;
+            [above, above + 1, 4_094, 4_096 + FIRST_STOP, u64::MAX]
+        }
+        // Of a day with a small table the first four alone are enabled.
+        _ => [8, 9, 10, 258, u64::MAX],
+    }
+}
+
+fn faulty_index(random: &mut Random, faults: &Faults, unused: &[u64]) -> u64 {
     if faults.has(NoEnabledLink) {
-        random.pick(&[8, 9, 10, 258, u64::MAX])
+        random.pick(unused)
     } else if faults.has(MulticastWithoutArea) {
         DGVL
     } else {

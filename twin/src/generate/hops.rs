@@ -95,13 +95,18 @@ pub fn next_hops(random: Random) -> Day {
         day.any_records(1, &[0, 0, 0, 1, 0, 0, 0, 0]);
     }
     for index in 0..=6 {
-        for maker in MAKERS {
-            request_with(&mut day, index, maker);
-        }
+        request_with_each(&mut day, index);
     }
     day.bad = 5;
     day.any_records(30, &[0, 1, 1, 2, 1, 2, 10, 20]);
     day
+}
+
+/// Requests on this index with each sort of next hop.
+pub fn request_with_each(day: &mut Day, index: u64) {
+    for maker in MAKERS {
+        request_with(day, index, maker);
+    }
 }
 
 fn request_with(day: &mut Day, index: u64, maker: Maker) {

@@ -4,9 +4,11 @@
 //! kind 2 have a small one, since behind it all is 16 up to the next start.
 
 pub mod areas;
+pub mod city;
 pub mod compared;
 pub mod damage;
 pub mod day;
+pub mod dispatch;
 pub mod faults;
 pub mod hops;
 pub mod joined;
@@ -15,11 +17,14 @@ pub mod noise;
 pub mod packets;
 pub mod prefixes;
 pub mod random;
+pub mod records;
 pub mod requests;
 pub mod sizes;
 pub mod starts;
 pub mod themes;
+pub mod thousands;
 pub mod values;
+pub mod wide;
 pub mod winter;
 
 use crate::table::LARGEST_MAXIMUM;

@@ -15,7 +15,7 @@ use crate::table::LARGEST_MAXIMUM;
 
 /// Starts, enables, disables, DGVL areas, own MIDs, indications, requests of kinds 7
 /// and 8.
-const ALL_CALLS: Weights = [1, 25, 8, 7, 4, 30, 10, 18];
+pub const ALL_CALLS: Weights = [1, 25, 8, 7, 4, 30, 10, 18];
 
 /// Full tables: every index enabled, then 6; disables and enables again.
 pub fn full_table(random: Random, maximum: u64) -> Day {
@@ -202,7 +202,7 @@ fn request_each_destination(day: &mut Day, index: u64) {
 /// Values out of range in every call, up to numbers that fit no type.
 pub fn out_of_range(random: Random) -> Day {
     let mut day = Day::new(random, 25);
-    let maximum = values::maximum(&mut day.random, 0);
+    let maximum = day.maximum(0);
     day.good_start(maximum);
     day.any_records(250, &ALL_CALLS);
     day
@@ -211,7 +211,7 @@ pub fn out_of_range(random: Random) -> Day {
 /// A bit of everything.
 pub fn mixed(random: Random) -> Day {
     let mut day = Day::new(random, 3);
-    let maximum = values::maximum(&mut day.random, 0);
+    let maximum = day.maximum(0);
     day.good_start(maximum);
     let count = day.random.between(40, 400);
     day.any_records(count, &ALL_CALLS);
@@ -222,7 +222,7 @@ pub fn mixed(random: Random) -> Day {
 pub fn any(mut random: Random) -> Day {
     match random.below(9) {
         0 => {
-            let maximum = values::maximum(&mut random, 0);
+            let maximum = values::maximum(&mut random, LARGEST_MAXIMUM, 0);
             full_table(random, maximum)
         }
         1 => near_areas(random),

@@ -4,7 +4,7 @@
 use super::random::Random;
 use crate::link::{InterfaceNumbers, RETIRED_KIND};
 use crate::mid::LARGEST_MID;
-use crate::table::{Table, LARGEST_MAXIMUM, SMALLEST_MAXIMUM};
+use crate::table::{Table, LARGEST_MAXIMUM, LARGEST_MAXIMUM_OVER_A_RUN, SMALLEST_MAXIMUM};
 
 /// A number that a type of too few bits would take for the value.
 pub fn alias(random: &mut Random, value: u64) -> u64 {
@@ -69,14 +69,20 @@ pub fn interface(random: &mut Random, bad: u64) -> InterfaceNumbers {
 }
 
 /// Small ones are soon full, so they and the largest come often.
-pub fn maximum(random: &mut Random, bad: u64) -> u64 {
+pub fn maximum(random: &mut Random, largest: u64, bad: u64) -> u64 {
     if random.percent(bad) {
-        return outside(random, &[0, 1, 1, 66, 66, 67, 127, 4_093, u64::MAX], 65);
+        let (next, all_ones) = (largest + 1, largest.next_power_of_two() - 1);
+        let other = if largest < LARGEST_MAXIMUM_OVER_A_RUN { 4_093 } else { 65_535 };
+        return outside(
+            random,
+            &[0, 1, 1, next, next, next + 1, all_ones, other, u64::MAX],
+            largest,
+        );
     }
     match random.below(3) {
         0 => random.between(SMALLEST_MAXIMUM, 6),
-        1 => random.between(LARGEST_MAXIMUM - 1, LARGEST_MAXIMUM),
-        _ => random.between(SMALLEST_MAXIMUM, LARGEST_MAXIMUM),
+        1 => random.between(largest - 1, largest),
+        _ => random.between(SMALLEST_MAXIMUM, largest),
     }
 }
 

@@ -21,7 +21,7 @@ pub fn last_winter(random: Random) -> Day {
         let count = day.random.between(1, 25);
         day.any_records(count, &ALL_BUT_STARTS);
     }
-    let maximum = values::maximum(&mut day.random, 0);
+    let maximum = day.maximum(0);
     day.good_start(maximum);
     for _ in 0..30 {
         old_stop(&mut day);
@@ -34,9 +34,10 @@ pub fn last_winter(random: Random) -> Day {
 }
 
 fn old_start(day: &mut Day) {
+    let largest = day.limits().largest_maximum;
     let settings = match day.random.percent(70) {
-        true => starts::retired(&mut day.random),
-        false => starts::retired_and_one_outside(&mut day.random),
+        true => starts::retired(&mut day.random, largest),
+        false => starts::retired_and_one_outside(&mut day.random, largest),
     };
     day.add(&Call::Start(settings));
 }

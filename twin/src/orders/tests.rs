@@ -2,6 +2,7 @@ use super::*;
 use crate::generate::day_file;
 use crate::generate::requests::old_request_pieces;
 use crate::leaving::Request;
+use crate::limits::DAYLIST;
 use crate::packet::UNSPECIFIED;
 use crate::write::{joined, record_bytes};
 
@@ -50,8 +51,8 @@ fn is_wanted(record: &Refused, later: u8) -> bool {
 fn no_other_order_is_seen() {
     for number in 0..60 {
         let day = day_file(22, number);
-        for_each_call(up_to_the_limit(&day), |replay, kind, call| {
-            let Some(record) = Refused::of_record(replay.table(), kind, call) else { return };
+        for_each_call(DAYLIST, &day, |replay, kind, call| {
+            let Some(record) = Refused::of_record(replay, kind, call) else { return };
             for &later in &record.later {
                 assert!(is_wanted(&record, later), "{} over {later}", record.given);
             }
@@ -64,7 +65,7 @@ const START: [u8; 7] = [1, 1, 2, 1, 1, 1, 1];
 /// The names of what is seen once in this day file.
 fn seen_in(day: &[u8]) -> Vec<String> {
     let mut counts = Counts::default();
-    counts.add(day);
+    counts.add(DAYLIST, day);
     let seen = counts.rows().iter().filter(|(_, count)| *count == 1);
     seen.map(|(situation, _)| situation.name()).collect()
 }

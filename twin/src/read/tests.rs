@@ -24,7 +24,7 @@ fn read(bytes: &[u8]) -> Call<'_> {
 /// Broken at its own offset, with or without whole records before it.
 fn assert_broken(bytes: &[u8]) {
     assert_eq!(read_record(bytes, 0), Err(Broken), "{bytes:02x?}");
-    let text = crate::listing::listing(&[&[5, 1, 3, 1], bytes].concat());
+    let text = crate::listing::listing(crate::limits::DAYLIST, &[&[5, 1, 3, 1], bytes].concat());
     assert!(text.ends_with("\n3 14 - 4\n"), "{text}");
 }
 

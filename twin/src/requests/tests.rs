@@ -2,6 +2,7 @@ use super::*;
 use crate::area::RECTANGLE;
 use crate::call::kind;
 use crate::generate::day_file;
+use crate::limits::DAYLIST;
 use crate::link::InterfaceNumbers;
 use crate::listing::{lines, RecordKind};
 use crate::mid::link_local_address;
@@ -39,7 +40,7 @@ fn day(calls: &[Call]) -> Vec<u8> {
 
 /// What is printed under the header.
 fn printed(day: &[u8]) -> String {
-    let text = print(&requests(day));
+    let text = print(&requests(DAYLIST, day));
     text.strip_prefix("rec ans transport destination class n\n").unwrap().to_string()
 }
 
@@ -88,7 +89,7 @@ const REQUESTS: [RecordKind; 2] =
 
 /// Number, reply and length of the request records that a listing has.
 fn listed(day: &[u8]) -> Vec<(usize, u8, usize)> {
-    let numbered = lines(day).into_iter().enumerate();
+    let numbered = lines(DAYLIST, day).into_iter().enumerate();
     numbered
         .filter(|(_, line)| REQUESTS.contains(&line.kind))
         .filter(|(_, line)| line.answer.reply != Refusal::RecordBroken.number())
@@ -108,7 +109,7 @@ fn records_replies_and_lengths_are_those_of_the_listing() {
     let mut count = 0;
     for number in 0..200 {
         let day = day_file(1, number);
-        let sent: Vec<_> = requests(&day).iter().map(as_listed).collect();
+        let sent: Vec<_> = requests(DAYLIST, &day).iter().map(as_listed).collect();
         assert_eq!(sent, listed(&day), "file {number}");
         count += sent.len();
     }

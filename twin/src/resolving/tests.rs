@@ -2,6 +2,7 @@ use super::*;
 use crate::generate::day_file;
 use crate::generate::requests::old_request_pieces;
 use crate::hop::good_next_hop;
+use crate::limits::DAYLIST;
 use crate::mid::mid_of_address;
 use crate::packet::Address;
 use crate::write::{joined, record_bytes};
@@ -27,7 +28,7 @@ fn packet(to: Address) -> Vec<u8> {
 /// The names of what is seen in this record behind the start.
 fn seen_in(record: &[u8]) -> Vec<String> {
     let mut counts = Counts::default();
-    counts.add(&[&START[..], record].concat());
+    counts.add(DAYLIST, &[&START[..], record].concat());
     let seen = counts.rows().iter().filter(|(_, count)| *count == 1);
     seen.map(|(situation, _)| situation.name()).collect()
 }
@@ -111,7 +112,7 @@ fn other_replies_are_not_counted() {
 #[test]
 fn sorts_of_generated_next_hops() {
     for number in 0..40 {
-        for_each_call(&day_file(23, number), |_, _, call| {
+        for_each_call(DAYLIST, &day_file(23, number), |_, _, call| {
             let Call::Request(request) = call else { return };
             let sort = Sort::of(request.next_hop);
             let good = good_next_hop(request.next_hop);

@@ -63,6 +63,27 @@ fn maximum_1_and_66_are_refused_2_and_65_are_good() {
     }
 }
 
+/// `run-maximum`.
+#[test]
+fn over_a_run_2_and_4093_are_good_1_and_4094_are_refused() {
+    let start = |maximum| {
+        Table::start_up_to(LARGEST_MAXIMUM_OVER_A_RUN, &StartSettings { maximum, ..START })
+    };
+    for maximum in [0, 1, 4_094, 4_095, 65_536 + 65, u64::MAX] {
+        assert_eq!(start(maximum), Err(ValueOutsideItsList));
+    }
+    for maximum in [2, 65, 66, 4_092, 4_093] {
+        assert_eq!(start(maximum).unwrap().maximum, maximum);
+    }
+    // `run-alike`.
+    assert_eq!(start(65), Ok(table(65)));
+    let retired = StartSettings { tvl: RETIRED, ..START };
+    for (maximum, refusal) in [(4_093, RetiredKind), (4_094, ValueOutsideItsList)] {
+        let settings = StartSettings { maximum, ..retired };
+        assert_eq!(Table::start_up_to(LARGEST_MAXIMUM_OVER_A_RUN, &settings), Err(refusal));
+    }
+}
+
 /// The start is refused with this number and returns the table that
 /// `start-refused` names.
 fn assert_start_refused(settings: &StartSettings, refusal: Refusal) {
@@ -204,6 +225,44 @@ fn at_most_maximum_minus_1_are_enabled() {
         assert_eq!(table.disable(maximum), Ok(()));
         assert_eq!(table.enable(&stop(900, NO_PREFIX)), Ok(maximum));
     }
+}
+
+/// The largest table that a run holds.
+fn table_of_thousands() -> Table {
+    let settings = StartSettings { maximum: 4_093, ..START };
+    let mut table = Table::start_up_to(LARGEST_MAXIMUM_OVER_A_RUN, &settings).unwrap();
+    for index in 2..=4_093 {
+        let (first, second) = ((index >> 8) as u8, index as u8);
+        let settings = stop(index.into(), prefix(0x20 + first, second, 16));
+        assert_eq!(table.enable(&settings), Ok(index));
+    }
+    table
+}
+
+#[test]
+fn thousands_of_stops() {
+    let mut table = table_of_thousands();
+    assert_eq!(table.stops.len(), 4_092);
+    assert_enable_refused(&mut table, &stop(1, NO_PREFIX), NoIndexFree);
+    // Against the last of them; 4 comes before 5, in whichever place the two stand.
+    let of_last = stop(4_093, prefix(0x20, 2, 16));
+    let by_last = stop(1, prefix(0x2F, 0xFD, 16));
+    for refused in [&of_last, &stop(2, by_last.prefix)] {
+        assert_enable_refused(&mut table, refused, AreaEqualToAStops);
+    }
+    assert_enable_refused(&mut table, &by_last, PrefixOverlapsAStops);
+    for index in [4_094, 4_096 + 2, 65_536 + 2, u64::MAX] {
+        assert_eq!(table.disable(index), Err(NoEnabledLink));
+        assert_eq!(table.interface(index), Err(NoEnabledLink));
+    }
+    // `link-lowest-index`.
+    for index in [4_093, 2_047, 3_000, 2_048] {
+        assert_eq!(table.disable(index), Ok(()));
+    }
+    for (place, index) in [(0, 2_047), (1, 2_048), (-2, 3_000), (4_093, 4_093)] {
+        assert_eq!(table.enable(&stop(place, NO_PREFIX)), Ok(index));
+    }
+    assert_enable_refused(&mut table, &stop(-1, NO_PREFIX), NoIndexFree);
 }
 
 #[test]
