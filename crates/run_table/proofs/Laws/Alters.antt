@@ -3,19 +3,19 @@
 --     settles      `run_slots::store(&mut *run, c.place, c.slot)`, and then `table_calls::reply(head, c)`
 --     exits        the run at exit, the reply and what is had of the parameters are what the contract asks
 --     meets        a function that walks to `Post` meets its contract
-use mir.Syntax.{Name, Fn, Ty, Lifetime, Mutability, Body, place, field, deref, copy, addrOf, aggregate, assign, call, seq}
+use mir.Syntax.{Fn, Ty, Lifetime, Mutability, Body, place, field, deref, copy, addrOf, aggregate, assign, call, seq}
 use prog.Wp.{spotOf}
 use types.Kit.{nth, put, Seq, Post as After}
-use types.Run.{Finds}
 use denote.Struct.Laws as LL
 use denote.RattleType.{RattleType}
 use denote.Exit.{Last, left}
 use denote.Triple.Clauses.{Ended, Clauses, closing}
 use Prim.Native.Nat.{zero, suc}
-use Rattle.run_slots.proofs.Laws.Walk.{_≡_, refl, sym, _∙_, ap, take, ℕ, _<_, _^_, List, [], _∷_, length, set, URA, fullShare, named, mut, w64, tyUnit, tyRef, Val, vint, vptr, vunit, SProp, ent, emp, via, fst∗, id⊢, Lft, GName, Share, ftrue, fat, froom, flft, Memory, Routine, Heap, Env, Calls, Loops, WpFn, Tables, Atoms, Fun, fact, Given, Item, runs, ‵, _⊛_, ⋆, _$_, _∵_, !, qed, by as by-step, move, split, join, fsplit, fjoin, suffices, frame, done, whole, sub, look, init, stop, fld, load, and-then, no-more, land, WpFn-mono, owns, Is, RefT, sliceTy, sliceVal, MutSlice, Room, finally, slice-vals, mut-slice-tells, plain, owned, nothing, Contract, Triple, tripleOf, Vals, onEntry, Meets, says, Stays, gave-slice, stay-none, walkOf, ends-at, walked, goes-gave-slice, goes-none, walk-meets, yes, usize, Nothing}
-use Rattle.run_slots.proofs.Laws.Data.{Data, struct, word, void, Values, Asked, asks}
-use Rattle.run_slots.proofs.Laws.Over.{Writing, Writer, gives}
+use Rattle.run_slots.proofs.Laws.Walk.{_≡_, refl, _∙_, ap, take, ℕ, List, [], _∷_, length, set, URA, fullShare, named, tyUnit, tyRef, Val, vptr, vunit, SProp, ent, emp, via, fst∗, id⊢, Lft, GName, Share, ftrue, fat, froom, flft, Memory, Routine, Heap, Env, Loops, WpFn, Tables, Atoms, Fun, fact, Given, Item, runs, ‵, _⊛_, ⋆, _$_, _∵_, !, qed, by as by-step, move, split, join, fsplit, fjoin, suffices, frame, done, whole, sub, look, init, stop, fld, load, and-then, no-more, land, WpFn-mono, owns, Is, RefT, sliceTy, sliceVal, MutSlice, Room, finally, slice-vals, mut-slice-tells, plain, owned, Contract, Triple, tripleOf, Vals, onEntry, Meets, says, Stays, gave-slice, stay-none, walkOf, ends-at, walked, goes-gave-slice, goes-none, walk-meets, yes}
+use Rattle.run_slots.proofs.Laws.Data.{Data, word, void, asks}
+use Rattle.run_slots.proofs.Laws.Over.{Writing, gives}
 use Rattle.run_slots.proofs.Laws.Sorts.{slot}
+use Rattle.run_table.proofs.Laws.Sorts.{head, answer, change}
 use Rattle.links.specs.declared.Slot.{Slot}
 use Rattle.links.specs.declared.Head.{Head}
 use Rattle.links.specs.declared.HeadReply.{HeadReply}
@@ -36,16 +36,7 @@ use Rattle.run_slots.proofs.store.Symbol as store-def
 use Rattle.table_calls.proofs.reply as reply
 use Rattle.table_calls.proofs.reply.Symbol as reply-def
 use Rattle.run_table.proofs.Laws.Retakes.{spot, cell, retakes}
-use Rattle.run_table.proofs.Laws.Locals.{at, part}
-
-abbrev pub head : Data N.the-row
-head = struct N.the-type N′.the-laws N′.the-plain
-
-abbrev pub answer : Data R.the-row
-answer = struct R.the-type R′.the-laws R′.the-plain
-
-abbrev pub change : Data C.the-row
-change = struct C.the-type C′.the-laws C′.the-plain
+use Rattle.run_table.proofs.Laws.Locals.{stands, at, part}
 
 -- the contracts that the proofs cite
 module _ {M : Type 1} (𝓤 : URA M) (H : Heap 𝓤) (A : Atoms 𝓤) (mem : Memory → SProp 𝓤) (run : Routine → Fun 𝓤) where
@@ -60,11 +51,12 @@ pub so-left : (h : Head) (ys zs : List Slot) (c : SlotChange) (r : HeadReply) {q
 so-left h ys zs c r ez er e = ap (λ (zs : List Slot). record { number = r .number; link = r .link; table = over (r .head) zs }) ez ∙ ap (λ (r : HeadReply). record { number = r .number; link = r .link; table = over (r .head) (set ys (c .place) (c .slot)) }) er ∙ e
 
 module _ {M : Type 1} {𝓤 : URA M} {H : Heap 𝓤} {A : Atoms 𝓤} {K : Type 0} {W : Given 𝓤 H A} {Γ : List (Item 𝓤)} {E : Env 𝓤 H} {Λ : Loops 𝓤 H} {p : After 𝓤 H} where
-  -- where the locals stand in the context behind the slice's own and the token: r the run, t the two temporaries, c the change, u what the store gives, h the head, z the reply
+  -- the context has four entries before the locals, the slice's own and the token first. The locals: r the run, t the two temporaries, c the change, u what the store gives, h the head, z the reply
   pub settles : K → (𝓣 : Tables 𝓤 H) (mem : Memory → SProp 𝓤) (run : Routine → Fun 𝓤) → Triple 𝓤 (𝓣 .C store-def.name) (Store 𝓤 H A mem run) → Triple 𝓤 (𝓣 .C reply-def.name) (Replies 𝓤 H A mem run)
       → {κ : Lft} {q : Share} {γ : GName} (b o : ℕ) (ys : List Slot) → Room S.the-row (length ys) → (h : Head) → Is N.the-row h (head .val h ∷ []) → (c : SlotChange) → Is C.the-row c (change .val c ∷ [])
-      → (nr nt ns nc nu nh nz : ℕ) {r t s i u j z lr lt ls lc lu lh lz : ℕ} {ℓ ℓ′ : Lifetime} {m m′ : Mutability} {τ σ ρ : Ty} {rest : Body}
-      → let old = sliceTy (tyRef ℓ m τ) in let new = tyRef ℓ′ m′ σ in let sv = sliceVal (b, o) (length ys) in
+      → {r t s i u j z lr lt ls lc lu lh lz : ℕ} {ℓ ℓ′ : Lifetime} {m m′ : Mutability} {τ σ ρ : Ty} {rest : Body}
+      → let nr = stands 𝓤 H 2 E r in let nt = stands 𝓤 H 2 E t in let ns = stands 𝓤 H 2 E s in let nc = stands 𝓤 H 2 E i in let nu = stands 𝓤 H 2 E u in let nh = stands 𝓤 H 2 E j in let nz = stands 𝓤 H 2 E z in
+      let old = sliceTy (tyRef ℓ m τ) in let new = tyRef ℓ′ m′ σ in let sv = sliceVal (b, o) (length ys) in
       let Δ₁ = put 𝓤 H A nt (‵ (fat fullShare new lt zero (vptr b o))) Γ in let Δ₂ = put 𝓤 H A ns (‵ (fat fullShare (sliceTy new) ls zero sv)) Δ₁ in let Δ₃ = put 𝓤 H A nu (‵ (fat fullShare tyUnit lu zero vunit)) Δ₂ in
       (spotOf 𝓤 H E r ∷ spotOf 𝓤 H E t ∷ spotOf 𝓤 H E s ∷ spotOf 𝓤 H E i ∷ spotOf 𝓤 H E u ∷ spotOf 𝓤 H E j ∷ spotOf 𝓤 H E z ∷ [])
       ≡ ((old, lr, zero) ∷ (new, lt, zero) ∷ (sliceTy new, ls, zero) ∷ (C′.mir, lc, zero) ∷ (tyUnit, lu, zero) ∷ (N′.mir, lh, zero) ∷ (R′.mir, lz, zero) ∷ [])
@@ -76,8 +68,9 @@ module _ {M : Type 1} {𝓤 : URA M} {H : Heap 𝓤} {A : Atoms 𝓤} {K : Type 
       → Seq K W (‵ (MutSlice (named 0) κ S.the-row .own (record { ptr = (b, o); name = γ; now = ys }) (sv ∷ [])) ∷ ‵ (flft κ q) ∷ Γ) (runs (𝓣 .C) Λ E
       (seq (assign (place t []) (addrOf (place r (field 0 ∷ deref ρ ∷ [])))) (seq (assign (place s []) (aggregate (copy (place t []) ∷ copy (place r (field 1 ∷ [])) ∷ [])))
       (seq (call store-def.name (copy (place s []) ∷ copy (place i (field 2 ∷ [])) ∷ copy (place i (field 3 ∷ [])) ∷ []) (place u [])) (seq (call reply-def.name (copy (place j []) ∷ copy (place i []) ∷ []) (place z [])) rest)))) p)
-  settles k 𝓣 mem run known-store known-reply {κ} {q} {γ} b o ys gn h gh c gc nr nt ns nc nu nh nz e w next = let fs = LL.owed C.the-type C′.the-laws c _ gc in
-      retakes k (suc (suc nr)) (suc (suc nt)) (suc (suc ns)) (gn .0) (ap (λ l. take 3 l) e) (ap (λ l. take 5 l) w) $
+  settles k 𝓣 mem run known-store known-reply {κ} {q} {γ} b o ys gn h gh c gc {r} {t} {s} {i} {u} {j} {z} e w next =
+      let nr = stands 𝓤 H 2 E r in let nt = stands 𝓤 H 2 E t in let ns = stands 𝓤 H 2 E s in let nc = stands 𝓤 H 2 E i in let nu = stands 𝓤 H 2 E u in let nh = stands 𝓤 H 2 E j in let nz = stands 𝓤 H 2 E z in let fs = LL.owed C.the-type C′.the-laws c _ gc in
+      retakes k 4 (gn .0) (ap (λ l. take 3 l) e) (ap (λ l. take 5 l) w) $
       gives k 𝓣 S.the-row (store.clauses 𝓤 H A mem run) known-store b o ys (λ κs. (c .place, (c .slot, tt))) (λ κs δ. tt) (λ κs. (word, (slot, tt))) (λ κs. (fs .1 .1 .0, (fs .1 .1 .1 .0, tt))) (λ κs δ. id⊢ 𝓤 _) void (λ r zs. zs ≡ set ys (c .place) (c .slot)) (λ κs δ r ws. id⊢ 𝓤 _)
       (and-then k (load k (at k (spot e 2) (stop k)) (look k (suc ns) (cell H A w 5))) (and-then k (load k (at k (spot e 3) (fld k refl (stop k))) (part k (suc nc) (cell H A w 6) (sub k 2 refl (whole k)))) (and-then k (load k (at k (spot e 3) (fld k refl (stop k))) (part k (suc nc) (cell H A w 6) (sub k 3 refl (whole k)))) (no-more k)))) (λ u zs ez is l.
       land k (at k (spot e 4) (stop k)) (init k (suc (suc nu)) (cell H A w 7) (tt, tt)) $

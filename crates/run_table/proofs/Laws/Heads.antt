@@ -8,10 +8,12 @@ use mir.Val.{hasTy, WT}
 use denote.RattleType.{RattleType}
 use denote.Exit.{Last, left}
 use denote.Triple.Clauses.{Ended, Clauses, closing}
-use Rattle.run_slots.proofs.Laws.Walk.{_≡_, refl, ℕ, List, [], _∷_, length, URA, named, imm, w64, tyInt, tyRef, Val, vint, SProp, ent, emp, via, fst∗, id⊢, Lft, GName, Share, ftrue, flft, Heap, WpFn, Tables, Atoms, fact, Given, ‵, _⊛_, ⋆, _$_, _∵_, !, qed, by, move, keep, suffices, frame, done, whole, sub, look-in, look, init, forget, stop, fld, from, load, of-opd, and-then, no-more, assigns, land, returns, enter, alloc1, alloc0, params1, pass1, pass0, WpFn-mono, owns, Is, usize, RefT, pointee, sliceTy, sliceVal, ShrSlice, Room, slice-vals, shr-slice-tells, plain, owned, Triple, Vals, onEntry, Meets, says, Stays, stay-none, stay-none-slice, walkOf, ends-at, walked, goes-none, goes-none-slice, walk-meets, yes}
+use Rattle.run_slots.proofs.Laws.Walk.{_≡_, refl, ℕ, List, [], _∷_, length, URA, named, imm, w64, tyInt, tyRef, Val, SProp, ent, emp, via, fst∗, id⊢, Lft, GName, Share, ftrue, flft, Heap, WpFn, Tables, Atoms, fact, Given, ‵, _⊛_, ⋆, _$_, _∵_, !, qed, by, move, suffices, frame, done, look, init, forget, stop, from, of-opd, and-then, no-more, assigns, returns, enter, alloc1, alloc0, params1, pass1, pass0, WpFn-mono, owns, Is, usize, RefT, pointee, sliceTy, sliceVal, ShrSlice, Room, slice-vals, shr-slice-tells, plain, owned, Triple, Vals, onEntry, Meets, says, Stays, stay-none, stay-none-slice, walkOf, ends-at, walked, goes-none, goes-none-slice, walk-meets, yes}
 use Rattle.run_slots.proofs.Laws.Frees.{frees-all}
-use Rattle.run_slots.proofs.Laws.Data.{Data, struct, word, Values, Asked, asks}
+use Rattle.run_table.proofs.Laws.Locals.{copied, copied-part, lands-at}
+use Rattle.run_slots.proofs.Laws.Data.{Data, word, Values, Asked, asks}
 use Rattle.run_slots.proofs.Laws.Over.{Reading}
+use Rattle.run_table.proofs.Laws.Sorts.{head, answer}
 use Rattle.links.specs.declared.Slot.{Slot}
 use Rattle.links.specs.declared.Head.{Head}
 use Rattle.links.specs.declared.HeadReply.{HeadReply}
@@ -20,12 +22,6 @@ use Rattle.links.proofs.Head as N
 use Rattle.links.proofs.Head.Laws as N′
 use Rattle.links.proofs.HeadReply as R
 use Rattle.links.proofs.HeadReply.Laws as R′
-
-abbrev head : Data N.the-row
-head = struct N.the-type N′.the-laws N′.the-plain
-
-abbrev answer : Data R.the-row
-answer = struct R.the-type R′.the-laws R′.the-plain
 
 abbrev slice : Ty
 slice = sliceTy (tyRef (named 0) imm (pointee (S.the-row .written)))
@@ -78,10 +74,10 @@ module _ {M : Type 1} (𝓤 : URA M) (H : Heap 𝓤) (A : Atoms 𝓤) (W : Given
         alloc1 ! (λ l₀. alloc1 ! (λ l₁. alloc1 ! (λ l₂. alloc1 ! (λ l₃. alloc1 ! (λ l₄. alloc0 ! $ params1 ! $
         pass1 ! (init ! 6 refl (tt, (tt, (record { fits = gn .0 }, tt)))) $ pass1 ! (init ! 4 refl (head .lawful 𝓤 H A W .typed h _ gh .0)) $ pass1 ! (init ! 2 refl (typed v gv)) $ pass0 ! $
         -- [_4; …; _3; …; _2; …; _1; …; room for _0; …; the token; what run, head and v own]
-        assigns ! (of-opd ! (load ! (from ! (fld ! refl (stop !))) (look-in ! 6 (sub ! 1 refl (whole !))))) (from ! (stop !)) (init ! 0 refl (tt, record { fits = gn .0 })) $
+        assigns ! (of-opd ! (copied-part ! 0 refl refl refl refl)) (from ! (stop !)) (init ! 0 refl (tt, record { fits = gn .0 })) $
         asks ! 𝓣 (Step 𝓤 X step) known (h, (length ys, (v, tt))) tt (head, (word, (D, tt))) (gh, ((refl, gn .0), (gv, tt))) (id⊢ 𝓤 _) answer (λ r. r ≡ step h (length ys) v) (λ r ws. id⊢ 𝓤 _)
-        (and-then ! (load ! (from ! (stop !)) (look ! 5 refl)) (and-then ! (load ! (from ! (stop !)) (look ! 1 refl)) (and-then ! (load ! (from ! (stop !)) (look ! 3 refl)) (no-more !)))) (λ r e is.
-        land ! (from ! (stop !)) (init ! 8 refl (answer .lawful 𝓤 H A W .typed r _ is .0)) $
+        (and-then ! (copied ! 1 refl) (and-then ! (copied ! 1 refl) (and-then ! (copied ! 1 refl) (no-more !)))) (λ r e is.
+        lands-at ! 0 refl (answer .lawful 𝓤 H A W .typed r _ is .0) $
         returns ! (look ! 8 refl) $ forget ! 0 refl $ forget ! 2 refl $ forget ! 4 refl $ forget ! 6 refl $ forget ! 8 refl $ move ! (10 ∷ 11 ∷ []) $ frees-all ! 2 refl $
         by ! (exits r (follows h ys v r e) is)))))))
 

@@ -1,7 +1,6 @@
 -- `run_table::disable` meets its contract: a walk of its MIR, by hand. The run is lent to `record_at` as a `&`, and given to `store` for good.
-use Rattle.run_slots.proofs.Laws.Walk.{_≡_, refl, _∙_, ap, ℕ, List, [], _∷_, length, getD, URA, SProp, ent, id⊢, Lft, GName, Share, Memory, Routine, Heap, WpFn, Tables, Atoms, Fun, givenOf, tables, tablesOf, Given, ⋆, _$_, _∵_, !, qed, by, move, whole, sub, look-in, look, init, forget, stop, fld, from, load, of-opd, and-then, no-more, assigns, land, returns, enter, alloc1, alloc0, params1, pass1, pass0, Is, sliceVal, Room, Contract, Triple, tripleOf, entered, cited}
+use Rattle.run_slots.proofs.Laws.Walk.{_≡_, refl, _∙_, ap, ℕ, List, [], _∷_, length, getD, URA, w64, vint, vptr, vunit, SProp, ent, id⊢, Lft, GName, Share, Memory, Routine, Heap, WpFn, Tables, Atoms, Fun, givenOf, tables, tablesOf, Given, ⋆, _$_, _∵_, !, qed, by, move, look, init, stop, from, of-opd, and-then, no-more, assigns, returns, enter, alloc1, alloc0, params1, pass1, pass0, Is, sliceVal, Room, Contract, Triple, tripleOf, entered, cited}
 use Rattle.run_slots.proofs.Laws.Data.{Data, struct, word, asks}
-use Rattle.run_slots.proofs.Laws.Frees.{frees-all}
 use Rattle.run_slots.proofs.Laws.Over.{lends}
 use Rattle.run_slots.proofs.Laws.Sorts.{slot}
 use denote.Struct.Laws as LL
@@ -30,8 +29,10 @@ use Rattle.table_calls.proofs.disable.Symbol as step-def
 use Rattle.table_calls.proofs.disable.Met as step-thm
 use Rattle.table_calls.proofs.reply.Symbol as reply-def
 use Rattle.table_calls.proofs.reply.Met as reply-thm
+use Rattle.run_table.proofs.Laws.Sorts.{head, answer, change}
+use Rattle.run_table.proofs.Laws.Locals.{holds, leaves, copied, copied-part, lands-at}
 use Rattle.run_table.proofs.Laws.Retakes.{retakes}
-use Rattle.run_table.proofs.Laws.Alters.{head, answer, change, Store, Replies, so-left, settles, Post, Start, exits, meets}
+use Rattle.run_table.proofs.Laws.Alters.{Store, Replies, so-left, settles, Post, Start, exits, meets}
 use Rattle.run_table.proofs.disable.Key.{name as #disable}
 use Rattle.run_table.proofs.disable as disables
 use Rattle.run_table.proofs.disable.Statement as stated
@@ -62,22 +63,23 @@ module _ {M : Type 1} (𝓤 : URA M) (H : Heap 𝓤) (A : Atoms 𝓤) (W : Given
       alloc1 ! (λ l₀. alloc1 ! (λ l₁. alloc1 ! (λ l₂. alloc1 ! (λ l₃. alloc1 ! (λ l₄. alloc1 ! (λ l₅. alloc1 ! (λ l₆. alloc1 ! (λ l₇. alloc1 ! (λ l₈. alloc1 ! (λ l₉. alloc1 ! (λ l₁₀. alloc1 ! (λ l₁₁. alloc1 ! (λ l₁₂. alloc0 ! $ params1 ! $
       pass1 ! (init ! 22 refl (tt, (tt, (record { fits = gn .0 }, tt)))) $ pass1 ! (init ! 20 refl (head .lawful 𝓤 H A W .typed h _ gh .0)) $ pass1 ! (init ! 18 refl (index .lawful 𝓤 H A W .typed i _ gi .0)) $ pass0 ! $ move ! (26 ∷ 27 ∷ 28 ∷ 29 ∷ []) $
       -- [the run; the token; true; what head and index own; _12; …; _11; …; .. ; room for _0; …]: the local k stands at 4 + 2 * (12 - k)
-      assigns ! (of-opd ! (load ! (from ! (fld ! refl (stop !))) (look-in ! 26 (sub ! 1 refl (whole !))))) (from ! (stop !)) (init ! 20 refl (tt, record { fits = gn .0 })) $
+      assigns ! (of-opd ! (copied-part ! 4 refl refl refl refl)) (from ! (stop !)) (init ! 20 refl (tt, record { fits = gn .0 })) $
       asks ! 𝓣 (slot-place.clauses 𝓤 H A mem run) known-place
       (h .max, (length ys, (i, tt))) tt (word, (word, (index, tt))) (max-is, ((refl, gn .0), (gi, tt))) (id⊢ 𝓤 _) word (λ p. p ≡ slotPlace (h .max) (length ys) i) (λ r ws. id⊢ 𝓤 _)
-      (and-then ! (load ! (from ! (fld ! refl (stop !))) (look-in ! 25 (sub ! 1 refl (whole !)))) (and-then ! (load ! (from ! (stop !)) (look ! 21 refl)) (and-then ! (load ! (from ! (stop !)) (look ! 23 refl)) (no-more !)))) (λ p ep gp.
-      land ! (from ! (stop !)) (init ! 18 refl (word .lawful 𝓤 H A W .typed p _ gp .0)) $
-      retakes ! 26 12 10 (gn .0) refl refl $
+      (and-then ! (copied-part ! 5 refl refl refl refl) (and-then ! (copied ! 5 refl) (and-then ! (copied ! 5 refl) (no-more !)))) (λ p ep gp.
+      lands-at ! 4 refl (word .lawful 𝓤 H A W .typed p _ gp .0) $
+      retakes ! 4 (gn .0) refl refl $
       lends ! 𝓣 S.the-row (record-at.clauses 𝓤 H A mem run) known-read b o ys gn (λ κs. (p, tt)) (λ κs δ. tt) (λ κs. (word, tt)) (λ κs. (gp, tt)) (λ κs δ. id⊢ 𝓤 _) slot (λ x. x ≡ getD ys p free) (λ κs δ r ws. id⊢ 𝓤 _)
-      (λ ν δ. and-then ! (load ! (from ! (stop !)) (look ! 10 refl)) (and-then ! (load ! (from ! (stop !)) (look ! 18 refl)) (no-more !))) (λ x ex gx.
-      land ! (from ! (stop !)) (init ! 16 refl (slot .lawful 𝓤 H A W .typed x _ gx .0)) $
+      (λ ν δ. and-then ! (copied ! 4 refl) (and-then ! (copied ! 4 refl) (no-more !))) (λ x ex gx.
+      lands-at ! 4 refl (slot .lawful 𝓤 H A W .typed x _ gx .0) $
       asks ! 𝓣 (step.clauses 𝓤 H A mem run) known-step
       (h .max, (length ys, (i, (x, tt)))) tt (word, (word, (index, (slot, tt)))) (max-is, ((refl, gn .0), (gi, (gx, tt)))) (id⊢ 𝓤 _) change (λ c. c ≡ disabled (h .max) (length ys) i x) (λ r ws. id⊢ 𝓤 _)
-      (and-then ! (load ! (from ! (fld ! refl (stop !))) (look-in ! 25 (sub ! 1 refl (whole !)))) (and-then ! (load ! (from ! (stop !)) (look ! 21 refl)) (and-then ! (load ! (from ! (stop !)) (look ! 23 refl)) (and-then ! (load ! (from ! (stop !)) (look ! 17 refl)) (no-more !))))) (λ c ec gc.
-      land ! (from ! (stop !)) (init ! 14 refl (change .lawful 𝓤 H A W .typed c _ gc .0)) $
-      settles ! 𝓣 mem run known-store known-reply b o ys gn h gh c gc 24 4 2 12 6 22 26 refl refl (λ zs r ez er gr l.
-      returns ! (look ! 28 refl) $ forget ! 4 refl $ forget ! 6 refl $ forget ! 8 refl $ forget ! 10 refl $ forget ! 12 refl $ forget ! 14 refl $ forget ! 16 refl $ forget ! 18 refl $ forget ! 20 refl $ forget ! 22 refl $ forget ! 24 refl $ forget ! 26 refl $ forget ! 28 refl $
-      frees-all ! 4 refl $ by ! (exits 𝓤 H A W I.the-row index disable κ q b o γ ys h i tt zs r (so-left h ys zs c r ez er (disable-together h ys i x c (ex ∙ ap (λ (p : ℕ). getD ys p free) ep) ec)) gr l))))))))))))))))))
+      (and-then ! (copied-part ! 5 refl refl refl refl) (and-then ! (copied ! 5 refl) (and-then ! (copied ! 5 refl) (and-then ! (copied ! 5 refl) (no-more !))))) (λ c ec gc.
+      lands-at ! 4 refl (change .lawful 𝓤 H A W .typed c _ gc .0) $
+      settles ! 𝓣 mem run known-store known-reply b o ys gn h gh c gc refl refl (λ zs r ez er gr l.
+      returns ! (look ! 28 refl) $
+      leaves ! (holds (answer .val r) ∷ holds (sliceVal (b, o) (length ys)) ∷ holds (head .val h) ∷ holds (index .val i) ∷ holds (vint w64 (length ys)) ∷ holds (vint w64 p) ∷ holds (slot .val x) ∷ holds (change .val c) ∷ holds (vptr b o) ∷ holds (sliceVal (b, o) (length ys)) ∷ holds vunit ∷ holds (vptr b o) ∷ holds (sliceVal (b, o) (length ys)) ∷ []) $
+      by ! (exits 𝓤 H A W I.the-row index disable κ q b o γ ys h i tt zs r (so-left h ys zs c r ez er (disable-together h ys i x c (ex ∙ ap (λ (p : ℕ). getD ys p free) ep) ec)) gr l))))))))))))))))))
 
 pub disable-spec : {M : Type 1} → stated.statement M
 unfolding code.routine tablesOf

@@ -1,5 +1,5 @@
 -- `run_table::enable` meets its contract: a walk of its MIR, by hand. Three times a covered step says what to look for and `find` is lent the run; then a covered step says what to store.
-use Rattle.run_slots.proofs.Laws.Walk.{_≡_, refl, ℕ, List, [], _∷_, length, set, take, URA, Ty, named, imm, mut, w64, tyInt, tyUnit, tyRef, Val, vint, vptr, vunit, SProp, ent, id⊢, Lft, GName, Share, ftrue, flft, Memory, Routine, Heap, Env, WpFn, Tables, Atoms, Fun, givenOf, tables, tablesOf, Given, Item, Sq, runs, atRet, ‵, ⋆, _$_, _∵_, !, qed, by, move, whole, sub, look-in, look, init, stop, fld, from, load, of-opd, and-then, no-more, assigns, land, returns, enter, alloc1, alloc0, params1, pass1, pass0, owns, Is, pointee, sliceTy, sliceVal, MutSlice, Room, Contract, Triple, tripleOf, entered, cited}
+use Rattle.run_slots.proofs.Laws.Walk.{_≡_, refl, ℕ, List, [], _∷_, length, set, take, URA, Ty, named, imm, mut, w64, tyInt, tyUnit, tyRef, Val, vint, vptr, vunit, SProp, ent, id⊢, Lft, GName, Share, ftrue, flft, Memory, Routine, Heap, Env, WpFn, Tables, Atoms, Fun, givenOf, tables, tablesOf, Given, Item, Sq, runs, atRet, ‵, ⋆, _$_, _∵_, !, qed, by, move, look, init, stop, from, of-opd, and-then, no-more, assigns, returns, enter, alloc1, alloc0, params1, pass1, pass0, owns, Is, pointee, sliceTy, sliceVal, MutSlice, Room, Contract, Triple, tripleOf, entered, cited}
 use Rattle.run_slots.proofs.Laws.Data.{Data, struct, word, asks}
 use Rattle.run_slots.proofs.Laws.Sorts.{found}
 use mir.Syntax.{Mutability, erased}
@@ -44,9 +44,10 @@ use Rattle.table_calls.proofs.enabling.change.Symbol as step-def
 use Rattle.table_calls.proofs.enabling.change.Met as step-thm
 use Rattle.table_calls.proofs.reply.Symbol as reply-def
 use Rattle.table_calls.proofs.reply.Met as reply-thm
-use Rattle.run_table.proofs.Laws.Alters.{head, answer, change, Store, Replies, so-left, settles, Post, Start, exits, meets}
-use Rattle.run_table.proofs.Laws.Locals.{Held, room, holds, locals, leaves}
-use Rattle.run_table.proofs.Laws.Searches.{inquiry, Find, searches}
+use Rattle.run_table.proofs.Laws.Sorts.{head, answer, change, inquiry}
+use Rattle.run_table.proofs.Laws.Alters.{Store, Replies, so-left, settles, Post, Start, exits, meets}
+use Rattle.run_table.proofs.Laws.Locals.{Held, room, holds, locals, leaves, copied, copied-part, lands-at}
+use Rattle.run_table.proofs.Laws.Searches.{Find, searches}
 use Rattle.run_table.proofs.enable.Key.{name as #enable}
 use Rattle.run_table.proofs.enable as enables
 use Rattle.run_table.proofs.enable.Statement as stated
@@ -98,9 +99,9 @@ module _ {M : Type 1} (𝓤 : URA M) (H : Heap 𝓤) (A : Atoms 𝓤) (W : Given
           (runs (𝓣 .C) (𝓣 .Λ) E body.t-14 (atRet E Q))
       stores g v u same over low gu gl right =
           asks ! 𝓣 (step.clauses 𝓤 H A mem run) known-step (u, (low, (length ys, (s, tt)))) tt (inquiry, (found, (word, (settings, tt)))) (gu, (gl, ((refl, gn .0), (gs, tt)))) (id⊢ 𝓤 _) change (λ c. c ≡ enabled u low (length ys) s) (λ r ws. id⊢ 𝓤 _)
-          (and-then ! (load ! (from ! (stop !)) (look ! 27 refl)) (and-then ! (load ! (from ! (stop !)) (look ! 25 refl)) (and-then ! (load ! (from ! (stop !)) (look ! 37 refl)) (and-then ! (load ! (from ! (stop !)) (look ! 39 refl)) (no-more !))))) (λ c ec gc.
-          land ! (from ! (stop !)) (init ! 22 refl (change .lawful 𝓤 H A W .typed c _ gc .0)) $
-          settles ! 𝓣 mem run known-store known-reply b o ys gn h gh c gc 40 4 2 20 6 38 42 refl refl (λ zs r ez er gr l. returns ! (look ! 44 refl) $
+          (and-then ! (copied ! 5 refl) (and-then ! (copied ! 5 refl) (and-then ! (copied ! 5 refl) (and-then ! (copied ! 5 refl) (no-more !))))) (λ c ec gc.
+          lands-at ! 4 refl (change .lawful 𝓤 H A W .typed c _ gc .0) $
+          settles ! 𝓣 mem run known-store known-reply b o ys gn h gh c gc refl refl (λ zs r ez er gr l. returns ! (look ! 44 refl) $
           leaves ! (holds (answer .val r) ∷ holds sv ∷ holds (head .val h) ∷ holds (settings .val s) ∷ holds (vint w64 (length ys)) ∷ holds (inquiry .val g) ∷ holds (found .val same) ∷ holds (inquiry .val v) ∷ holds (found .val over) ∷ holds (inquiry .val u) ∷ holds (found .val low) ∷ holds (change .val c)
           ∷ holds (vptr b o) ∷ holds sv ∷ holds (vptr b o) ∷ holds sv ∷ holds (vptr b o) ∷ holds sv ∷ holds vunit ∷ holds (vptr b o) ∷ holds sv ∷ []) $
           by ! (exits 𝓤 H A W Z.the-row settings enable κ q b o γ ys h s tt zs r (so-left h ys zs c r ez er (right c ec)) gr l)))
@@ -110,24 +111,24 @@ module _ {M : Type 1} (𝓤 : URA M) (H : Heap 𝓤) (A : Atoms 𝓤) (W : Given
           → Sq W (Here (holds (inquiry .val g) ∷ holds (found .val same) ∷ holds (inquiry .val v) ∷ holds (found .val over) ∷ room ∷ room ∷ room ∷ holds (vptr b o) ∷ holds sv ∷ holds (vptr b o) ∷ holds sv ∷ [])) (runs (𝓣 .C) (𝓣 .Λ) E body.t-10 (atRet E Q))
       takes g v same over gv go right =
           asks ! 𝓣 (unused.clauses 𝓤 H A mem run) known-unused (v, (over, tt)) tt (inquiry, (found, tt)) (gv, (go, tt)) (id⊢ 𝓤 _) inquiry (λ i. i ≡ unusedAsked v over) (λ r ws. id⊢ 𝓤 _)
-          (and-then ! (load ! (from ! (stop !)) (look ! 31 refl)) (and-then ! (load ! (from ! (stop !)) (look ! 29 refl)) (no-more !))) (λ u eu gu.
-          land ! (from ! (stop !)) (init ! 26 refl (inquiry .lawful 𝓤 H A W .typed u _ gu .0)) $
-          searches ! 𝓣 mem run known-find b o ys gn u gu 40 10 8 24 22 refl refl (λ low el gl. stores g v u same over low gu gl (λ c. right u low c eu el)))
+          (and-then ! (copied ! 5 refl) (and-then ! (copied ! 5 refl) (no-more !))) (λ u eu gu.
+          lands-at ! 4 refl (inquiry .lawful 𝓤 H A W .typed u _ gu .0) $
+          searches ! 𝓣 mem run known-find b o ys gn u gu refl refl (λ low el gl. stores g v u same over low gu gl (λ c. right u low c eu el)))
 
       overlaps : (g : Inquiry) (same : Found) → Is Y.the-row g (inquiry .val g ∷ []) → Is F.the-row same (found .val same ∷ []) → g ≡ groundAsked (h .max) (length ys) s → same ≡ foundIn (take (g .count) ys) (fits (g .wanted)) (g .otherwise)
           → Sq W (Here (holds (inquiry .val g) ∷ holds (found .val same) ∷ room ∷ room ∷ room ∷ room ∷ room ∷ holds (vptr b o) ∷ holds sv ∷ [])) (runs (𝓣 .C) (𝓣 .Λ) E body.t-6 (atRet E Q))
       overlaps g same gg gsame eg es =
           asks ! 𝓣 (overlap.clauses 𝓤 H A mem run) known-overlap (g, (same, (s, tt))) tt (inquiry, (found, (settings, tt))) (gg, (gsame, (gs, tt))) (id⊢ 𝓤 _) inquiry (λ i. i ≡ overlapAsked g same s) (λ r ws. id⊢ 𝓤 _)
-          (and-then ! (load ! (from ! (stop !)) (look ! 35 refl)) (and-then ! (load ! (from ! (stop !)) (look ! 33 refl)) (and-then ! (load ! (from ! (stop !)) (look ! 39 refl)) (no-more !)))) (λ v ev gv.
-          land ! (from ! (stop !)) (init ! 30 refl (inquiry .lawful 𝓤 H A W .typed v _ gv .0)) $
-          searches ! 𝓣 mem run known-find b o ys gn v gv 40 14 12 28 26 refl refl (λ over eo go. takes g v same over gv go (λ u low c eu el ec. enable-together h ys s g v u same over low c eg es ev eo eu el ec)))
+          (and-then ! (copied ! 5 refl) (and-then ! (copied ! 5 refl) (and-then ! (copied ! 5 refl) (no-more !)))) (λ v ev gv.
+          lands-at ! 4 refl (inquiry .lawful 𝓤 H A W .typed v _ gv .0) $
+          searches ! 𝓣 mem run known-find b o ys gn v gv refl refl (λ over eo go. takes g v same over gv go (λ u low c eu el ec. enable-together h ys s g v u same over low c eg es ev eo eu el ec)))
 
       in-use : Sq W (Here []) (runs (𝓣 .C) (𝓣 .Λ) E body.t-2 (atRet E Q))
       in-use =
           asks ! 𝓣 (ground.clauses 𝓤 H A mem run) known-ground (h .max, (length ys, (s, tt))) tt (word, (word, (settings, tt))) (LL.owed N.the-type N′.the-laws h _ gh .1 .0, ((refl, gn .0), (gs, tt))) (id⊢ 𝓤 _) inquiry (λ i. i ≡ groundAsked (h .max) (length ys) s) (λ r ws. id⊢ 𝓤 _)
-          (and-then ! (load ! (from ! (fld ! refl (stop !))) (look-in ! 41 (sub ! 1 refl (whole !)))) (and-then ! (load ! (from ! (stop !)) (look ! 37 refl)) (and-then ! (load ! (from ! (stop !)) (look ! 39 refl)) (no-more !)))) (λ g eg gg.
-          land ! (from ! (stop !)) (init ! 34 refl (inquiry .lawful 𝓤 H A W .typed g _ gg .0)) $
-          searches ! 𝓣 mem run known-find b o ys gn g gg 40 18 16 32 30 refl refl (λ same es gsame. overlaps g same gg gsame eg es))
+          (and-then ! (copied-part ! 5 refl refl refl refl) (and-then ! (copied ! 5 refl) (and-then ! (copied ! 5 refl) (no-more !)))) (λ g eg gg.
+          lands-at ! 4 refl (inquiry .lawful 𝓤 H A W .typed g _ gg .0) $
+          searches ! 𝓣 mem run known-find b o ys gn g gg refl refl (λ same es gsame. overlaps g same gg gsame eg es))
 
     walk : ent 𝓤 (⋆ 𝓤 H A (Start 𝓤 H A W Z.the-row settings enable κ q b o γ ys h s)) (WpFn 𝓤 H (𝓣 .C) (𝓣 .Λ) code.function (sv ∷ head .val h ∷ settings .val s ∷ []) Q)
     walk =
@@ -135,7 +136,7 @@ module _ {M : Type 1} (𝓤 : URA M) (H : Heap 𝓤) (A : Atoms 𝓤) (W : Given
         alloc1 ! (λ l₀. alloc1 ! (λ l₁. alloc1 ! (λ l₂. alloc1 ! (λ l₃. alloc1 ! (λ l₄. alloc1 ! (λ l₅. alloc1 ! (λ l₆. alloc1 ! (λ l₇. alloc1 ! (λ l₈. alloc1 ! (λ l₉. alloc1 ! (λ l₁₀. alloc1 ! (λ l₁₁. alloc1 ! (λ l₁₂. alloc1 ! (λ l₁₃. alloc1 ! (λ l₁₄. alloc1 ! (λ l₁₅. alloc1 ! (λ l₁₆. alloc1 ! (λ l₁₇. alloc1 ! (λ l₁₈. alloc1 ! (λ l₁₉. alloc1 ! (λ l₂₀.
         alloc0 ! $ params1 ! $
         pass1 ! (init ! 38 refl (tt, (tt, (record { fits = gn .0 }, tt)))) $ pass1 ! (init ! 36 refl (head .lawful 𝓤 H A W .typed h _ gh .0)) $ pass1 ! (init ! 34 refl (settings .lawful 𝓤 H A W .typed s _ gs .0)) $ pass0 ! $ move ! (42 ∷ 43 ∷ 44 ∷ 45 ∷ []) $
-        assigns ! (of-opd ! (load ! (from ! (fld ! refl (stop !))) (look-in ! 42 (sub ! 1 refl (whole !))))) (from ! (stop !)) (init ! 36 refl (tt, record { fits = gn .0 })) $
+        assigns ! (of-opd ! (copied-part ! 4 refl refl refl refl)) (from ! (stop !)) (init ! 36 refl (tt, record { fits = gn .0 })) $
         in-use l₀ l₁ l₂ l₃ l₄ l₅ l₆ l₇ l₈ l₉ l₁₀ l₁₁ l₁₂ l₁₃ l₁₄ l₁₅ l₁₆ l₁₇ l₁₈ l₁₉ l₂₀)))))))))))))))))))))
 
 pub enable-spec : {M : Type 1} → stated.statement M

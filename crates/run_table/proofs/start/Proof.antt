@@ -1,6 +1,6 @@
 -- `run_table::start` meets its contract: a walk of its MIR, by hand. A covered step says how many records to clear, the run is given to `clear` for good, and a covered step makes the reply.
 use denote.Struct.Laws as LL
-use Rattle.run_slots.proofs.Laws.Walk.{_≡_, refl, _∙_, ap, ℕ, List, [], _∷_, length, URA, named, w64, Val, vint, vptr, vunit, SProp, ent, emp, via, fst∗, id⊢, Lft, GName, Share, ftrue, flft, Memory, Routine, Heap, WpFn, Tables, Atoms, Fun, givenOf, tables, tablesOf, Given, ‵, _⊛_, ⋆, _$_, _∵_, !, qed, by, move, split, join, fsplit, fjoin, suffices, frame, done, whole, sub, look-in, look, init, stop, fld, from, load, of-opd, and-then, no-more, assigns, land, returns, enter, alloc1, alloc0, params1, pass1, pass0, WpFn-mono, owns, Is, RefT, sliceVal, MutSlice, Room, finally, slice-vals, mut-slice-tells, plain, owned, Contract, Triple, Vals, onEntry, tripleOf, entered, cited, says, Stays, gave-slice, stay-none, walkOf, ends-at, walked, goes-gave-slice, goes-none, walk-meets, yes}
+use Rattle.run_slots.proofs.Laws.Walk.{_≡_, refl, _∙_, ap, ℕ, List, [], _∷_, length, URA, named, w64, Val, vint, vptr, vunit, SProp, ent, emp, via, fst∗, id⊢, Lft, GName, Share, ftrue, flft, Memory, Routine, Heap, WpFn, Tables, Atoms, Fun, givenOf, tables, tablesOf, Given, ‵, _⊛_, ⋆, _$_, _∵_, !, qed, by, move, split, join, fsplit, fjoin, suffices, frame, done, look, init, stop, from, of-opd, and-then, no-more, assigns, returns, enter, alloc1, alloc0, params1, pass1, pass0, WpFn-mono, owns, Is, RefT, sliceVal, MutSlice, Room, finally, slice-vals, mut-slice-tells, plain, owned, Contract, Triple, Vals, onEntry, tripleOf, entered, cited, says, Stays, gave-slice, stay-none, walkOf, ends-at, walked, goes-gave-slice, goes-none, walk-meets, yes}
 use Rattle.run_slots.proofs.Laws.Data.{Data, struct, word, byte, void, asks}
 use Rattle.run_slots.proofs.Laws.Over.{gives}
 use Rattle.links.specs.declared.Slot.{Slot}
@@ -26,7 +26,7 @@ use Rattle.table_calls.proofs.heads.beginning.Met as first-thm
 use Rattle.table_calls.proofs.heads.begun as last
 use Rattle.table_calls.proofs.heads.begun.Symbol as last-def
 use Rattle.table_calls.proofs.heads.begun.Met as last-thm
-use Rattle.run_table.proofs.Laws.Locals.{holds, leaves}
+use Rattle.run_table.proofs.Laws.Locals.{holds, leaves, copied, copied-part, lands-at}
 use Rattle.run_table.proofs.Laws.Retakes.{retakes}
 use Rattle.run_table.proofs.start.Key.{name as #start}
 use Rattle.run_table.proofs.start as start
@@ -84,17 +84,17 @@ module _ {M : Type 1} (𝓤 : URA M) (H : Heap 𝓤) (A : Atoms 𝓤) (W : Given
         alloc1 ! (λ l₀. alloc1 ! (λ l₁. alloc1 ! (λ l₂. alloc1 ! (λ l₃. alloc1 ! (λ l₄. alloc1 ! (λ l₅. alloc1 ! (λ l₆. alloc1 ! (λ l₇. alloc0 ! $ params1 ! $
         pass1 ! (init ! 12 refl (tt, (tt, (record { fits = gn .0 }, tt)))) $ pass1 ! (init ! 10 refl (values .lawful 𝓤 H A W .typed v _ gv .0)) $ pass0 ! $ move ! (16 ∷ 17 ∷ 18 ∷ 19 ∷ []) $
         -- [the run; the token; true; what the values own; _7; …; _6; …; .. ; room for _0; …]: the local k stands at 4 + 2 * (7 - k)
-        assigns ! (of-opd ! (load ! (from ! (fld ! refl (stop !))) (look-in ! 16 (sub ! 1 refl (whole !))))) (from ! (stop !)) (init ! 10 refl (tt, record { fits = gn .0 })) $
+        assigns ! (of-opd ! (copied-part ! 4 refl refl refl refl)) (from ! (stop !)) (init ! 10 refl (tt, record { fits = gn .0 })) $
         asks ! 𝓣 (first.clauses 𝓤 H A mem run) known-first (length ys, (v, tt)) tt (word, (values, tt)) ((refl, gn .0), (gv, tt)) (id⊢ 𝓤 _) order (λ d. d ≡ beginning (length ys) v) (λ r ws. id⊢ 𝓤 _)
-        (and-then ! (load ! (from ! (stop !)) (look ! 11 refl)) (and-then ! (load ! (from ! (stop !)) (look ! 15 refl)) (no-more !))) (λ d ed gd. let fs = LL.owed O.the-type O′.the-laws d _ gd in
-        land ! (from ! (stop !)) (init ! 12 refl (order .lawful 𝓤 H A W .typed d _ gd .0)) $
-        retakes ! 16 6 4 (gn .0) refl refl $
+        (and-then ! (copied ! 5 refl) (and-then ! (copied ! 5 refl) (no-more !))) (λ d ed gd. let fs = LL.owed O.the-type O′.the-laws d _ gd in
+        lands-at ! 4 refl (order .lawful 𝓤 H A W .typed d _ gd .0) $
+        retakes ! 4 (gn .0) refl refl $
         gives ! 𝓣 S.the-row (clear.clauses 𝓤 H A mem run) known-clear b o ys (λ κs. (d .count, tt)) (λ κs δ. tt) (λ κs. (word, tt)) (λ κs. (fs .1 .0, tt)) (λ κs δ. id⊢ 𝓤 _) void (λ u zs. zs ≡ cleared (d .count) ys) (λ κs δ r ws. id⊢ 𝓤 _)
-        (and-then ! (load ! (from ! (stop !)) (look ! 3 refl)) (and-then ! (load ! (from ! (fld ! refl (stop !))) (look-in ! 11 (sub ! 1 refl (whole !)))) (no-more !))) (λ u zs ez gu l.
-        land ! (from ! (stop !)) (init ! 8 refl (tt, tt)) $
+        (and-then ! (copied ! 3 refl) (and-then ! (copied-part ! 3 refl refl refl refl) (no-more !))) (λ u zs ez gu l.
+        lands-at ! 4 refl (tt, tt) $
         asks ! 𝓣 (last.clauses 𝓤 H A mem run) known-last (d .number, (v, tt)) tt (byte, (values, tt)) (fs .0, (gv, tt)) (id⊢ 𝓤 _) answer (λ r. r ≡ begun (d .number) v) (λ r ws. id⊢ 𝓤 _)
-        (and-then ! (load ! (from ! (fld ! refl (stop !))) (look-in ! 13 (sub ! 0 refl (whole !)))) (and-then ! (load ! (from ! (stop !)) (look ! 15 refl)) (no-more !))) (λ r er gr.
-        land ! (from ! (stop !)) (init ! 18 refl (answer .lawful 𝓤 H A W .typed r _ gr .0)) $ returns ! (look ! 18 refl) $
+        (and-then ! (copied-part ! 5 refl refl refl refl) (and-then ! (copied ! 5 refl) (no-more !))) (λ r er gr.
+        lands-at ! 4 refl (answer .lawful 𝓤 H A W .typed r _ gr .0) $ returns ! (look ! 18 refl) $
         leaves ! (holds (answer .val r) ∷ holds sv ∷ holds (values .val v) ∷ holds (order .val d) ∷ holds (vint w64 (length ys)) ∷ holds vunit ∷ holds (vptr b o) ∷ holds sv ∷ []) $
         by ! (exits zs r (ap (λ (l : List Slot). record { number = r .number; head = r .head; run = l }) ez ∙ start-together ys v d r ed er) gr l))))))))))))
 
