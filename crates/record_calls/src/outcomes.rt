@@ -102,14 +102,15 @@ fn begins(b: BoxHead, records: usize, next: usize, v: StartValues) -> Outcome
     ensures { λ r. ⌜ r ≡ begins (b .head) records next v ⌝ }
 {
     let order = heads::beginning(records, v);
-    let begun = heads::begun(order.number, v);
+    let number = order.number;
+    let begun = heads::begun(number, v);
     let given = begun.head;
     let before = b.head;
     let head = head_in(before, given);
-    let line = lines::no_link(order.number, 0);
+    let line = lines::no_link(number, 0);
     Outcome {
         line: line,
-        started: order.number == replies::DONE,
+        started: number == replies::DONE,
         head: head,
         next: next,
         clear: order.count,

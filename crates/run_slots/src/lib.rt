@@ -42,10 +42,15 @@ fn found_at(place: usize, x: Slot) -> Found
 fn found_none(place: usize, otherwise: Chosen) -> Found
     ensures { λ r. ⌜ r ≡ foundNone place otherwise ⌝ }
 {
+    let index = otherwise.index;
+    let link = Chosen {
+        index: index,
+        kind: otherwise.kind,
+    };
     Found {
         any: false,
         place: place,
-        link: otherwise,
+        link: link,
     }
 }
 

@@ -19,12 +19,17 @@ pub struct Inquiry {
 pub fn asking(number: u8, count: usize, wanted: Wanted, otherwise: Chosen) -> Inquiry
     ensures { λ r. ⌜ r ≡ asking number count wanted otherwise ⌝ }
 {
+    let index = otherwise.index;
+    let link = Chosen {
+        index: index,
+        kind: otherwise.kind,
+    };
     if number != 0 {
         return Inquiry {
             number: number,
             count: 0,
             wanted: Wanted::Unused,
-            otherwise: otherwise,
+            otherwise: link,
         };
     }
     let question = crate::as_asked(wanted);
@@ -32,7 +37,7 @@ pub fn asking(number: u8, count: usize, wanted: Wanted, otherwise: Chosen) -> In
         number: 0,
         count: count,
         wanted: question,
-        otherwise: otherwise,
+        otherwise: link,
     }
 }
 
