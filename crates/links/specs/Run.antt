@@ -7,6 +7,7 @@ use mathlib.Core.List.{List, [], _++_}
 use lib.Dec.{ltb}
 use lib.ListN.{length}
 use Rattle.replies.specs.Rules.{Rule, _if_, _then_, refusal}
+use Rattle.links.specs.declared.Begun.{Begun}
 use Rattle.links.specs.declared.Head.{Head}
 use Rattle.links.specs.declared.HeadReply.{HeadReply}
 use Rattle.links.specs.declared.PerhapsArea.the-variants.{Unset}
@@ -61,6 +62,10 @@ pub record Started : Type 0 where
   pub number : ℕ
   pub head : PerhapsHead
   pub run : List Slot
+
+-- what a start promises, likewise
+abbrev pub Begins : Started → Begun → List Slot → Type 0
+Begins q r run = record { number = r .number; head = r .head; run = run } ≡ q
 
 -- run-start: maximum - 1 records are cleared, and the rest stays; a refused start changes nothing and gives no table
 abbrev pub beginOver : ℕ → List Slot → StartValues → Started

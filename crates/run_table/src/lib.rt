@@ -13,11 +13,11 @@ use table_calls::enabling;
 use table_calls::heads;
 ghost use mathlib.Core.Path.{_≡_};
 ghost use Rattle.links.specs.Calls.{enable, disable, setArea, setOwn};
-ghost use Rattle.links.specs.Run.{over, replyOver, startOver, Left};
+ghost use Rattle.links.specs.Run.{over, replyOver, startOver, Left, Begins};
 
 // The first maximum - 1 records are cleared, and the rest stays.
 pub fn start(run: &mut [Slot], v: StartValues) -> Begun
-    ensures { λ r. ⌜ record { number = r .number; head = r .head; run = now (run .exit) } ≡ startOver (now (run .entry)) v ⌝ }
+    ensures { λ r. ⌜ Begins (startOver (now (run .entry)) v) r (now (run .exit)) ⌝ }
 {
     let begin = heads::beginning(run.len(), v);
     run_slots::clear(&mut *run, begin.count);

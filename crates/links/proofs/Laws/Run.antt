@@ -8,8 +8,9 @@ use lib.Dec.{lit<}
 use lib.ListN.{length, length-take}
 use borrow.Author.Tests.{le-ltb}
 use Rattle.replies.specs.Rules.{Rule, _if_, _then_, refusal}
+use Rattle.replies.specs.Promise.{DeterminesBoth}
 use Rattle.replies.proofs.Laws.Refusals.{Numbered, numbered-append, passed-over, refusal-again}
-use Rattle.links.specs.declared.Settings.{Settings}
+use Rattle.links.specs.declared.Reply.{Reply}
 use Rattle.links.specs.declared.Slot.{Slot}
 use Rattle.links.specs.declared.StartValues.{StartValues}
 use Rattle.links.specs.declared.Table.{Table}
@@ -17,7 +18,7 @@ use Rattle.links.specs.Settings.{settingsValues, groundRules, settingsRu
 use Rattle.links.specs.Slots.{counted}
 use Rattle.links.specs.Calls.{TableCall, enable, disable, setArea, setOwn, slotRules, rules, answer, reply, startValues}
 use Rattle.links.specs.Reached.{Reached}
-use Rattle.links.specs.Run.{tooShort, valuesOf, rulesOver, replyOver, startRulesOver}
+use Rattle.links.specs.Run.{headOf, tooShort, valuesOf, rulesOver, replyOver, Left, startRulesOver, Started, Begins}
 use Rattle.links.proofs.Laws.Replies.{values-numbered, numbered, start-numbered}
 use Rattle.links.proofs.Laws.Sound.{sound}
 
@@ -65,3 +66,15 @@ pub reached-long : {most : ℕ} {memory : List Slot} {t : Table} → Reached mos
 reached-long {t = t} r =
     let room : length (counted t) ≡ t .max - 1 = sound r .room in
     le-ltb (length (t .slots)) (t .max - 1) (omega (arith, length-take (t .max - 1) (t .slots), room))
+
+-- what a call over a run promises determines its reply and the run that it leaves
+pub left-determined : (q : Reply) → DeterminesBoth (Left q)
+left-determined q r s run left p e =
+    let same = p ∙ sym e in
+    let table = ap (λ (x : Reply). x .table) same in
+    (λ i. record { number = same i .number; link = same i .link; head = headOf (same i .table) }, ap (λ (t : Table). t .slots) table)
+
+pub begins-determined : (q : Started) → DeterminesBoth (Begins q)
+begins-determined q r s run left p e =
+    let same = p ∙ sym e in
+    (λ i. record { number = same i .number; head = same i .head }, ap (λ (x : Started). x .run) same)
