@@ -4,11 +4,10 @@ use libc::STDERR_FILENO;
 use libc::STDIN_FILENO;
 use libc::STDOUT_FILENO;
 ghost use mathlib.Core.Path.{_≡_};
-ghost use Prim.Native.Nat.{_/_};
 ghost use lib.ListN.{length};
 ghost use Rattle.replay.specs.Day.{allNumbers, inFront};
 ghost use Rattle.listing.specs.Room.{textBuffer};
-ghost use Rattle.daylist.specs.Listing.{mostBytes, dayAs, linesOf, listedOf};
+ghost use Rattle.daylist.specs.Listing.{mostBytes, dayInto, linesOf, listedOf};
 
 // Input past so many bytes counts as missing.
 const MOST: usize = 65536;
@@ -18,7 +17,7 @@ const MOST_DISPATCHED: usize = 262144;
 
 // The day's lines as numbers: on document 01's table, or on the dispatch server's, over a run.
 fn day_of(dispatched: bool, input: &[u8], out: &mut [u8], lines: &mut [u64]) -> usize
-    ensures { λ r. ⌜ (r ≡ length (dayAs dispatched (length (now (lines .entry)) / 4) (now (input .entry)) (now (out .entry)) .lines)) × (now (lines .exit) ≡ inFront (allNumbers (dayAs dispatched (length (now (lines .entry)) / 4) (now (input .entry)) (now (out .entry)) .lines)) (now (lines .entry))) ⌝ }
+    ensures { λ r. ⌜ (r ≡ length (dayInto dispatched (now (lines .entry)) (now (input .entry)) (now (out .entry)) .lines)) × (now (lines .exit) ≡ inFront (allNumbers (dayInto dispatched (now (lines .entry)) (now (input .entry)) (now (out .entry)) .lines)) (now (lines .entry))) ⌝ }
 {
     if dispatched {
         return run_replay::day(octets::part(input, 0, MOST_DISPATCHED), out, lines);
@@ -64,7 +63,7 @@ fn room_for_input() -> [u8; 262144]
     [0; 262144]
 }
 
-// How many bytes are read.
+// So many bytes are listed.
 fn limit(dispatched: bool) -> usize
     ensures { λ r. ⌜ r ≡ mostBytes dispatched ⌝ }
 {
@@ -81,8 +80,20 @@ fn show(text: &[u8]) {
     }
 }
 
+fn say_more(dispatched: bool) {
+    if dispatched {
+        say(b"daylist: the input has more than 262,144 bytes; what is past them is not listed\n");
+        return;
+    }
+    say(b"daylist: the input has more than 65,536 bytes; what is past them is not listed\n");
+}
+
 // Whether something is left of an input of which `n` bytes were read: what is past the limit, or what could not be read.
 fn tell_what_is_missing(dispatched: bool, n: usize) {
+    if limit(dispatched) < n {
+        say_more(dispatched);
+        return;
+    }
     let mut byte = [0u8; 1];
     let got = libc::read(STDIN_FILENO, &mut byte);
     if got < 0 {
@@ -96,19 +107,14 @@ fn tell_what_is_missing(dispatched: bool, n: usize) {
         say(b"daylist: standard input: reading ended early; what came later is not listed\n");
         return;
     }
-    if dispatched {
-        say(b"daylist: the input has more than 262,144 bytes; what is past them is not listed\n");
-        return;
-    }
-    say(b"daylist: the input has more than 65,536 bytes; what is past them is not listed\n");
+    say_more(dispatched);
 }
 
 // An argument, whatever it is, asks for the dispatch server's table.
 fn main() {
     let dispatched = 1 < os::arg_count();
     let mut input = room_for_input();
-    let most = limit(dispatched);
-    let n = io::read_full(STDIN_FILENO, &mut input[..most]);
+    let n = io::read_full(STDIN_FILENO, &mut input);
     let mut text = room_for_text();
     let listed = list(dispatched, &input[..n], &mut text);
     show(octets::part(&text, 0, listed.length));

@@ -13,5 +13,8 @@ pub mod Local
 pub mod Over
 pub mod Passed
 pub mod Walk
+pub mod Retakes
+pub mod Locals
+pub mod Bytes
 pub mod Finds
 pub mod Clears

@@ -1,4 +1,3 @@
 -- What the walks of this crate have in common.
 pub mod Sorts
 pub mod Records
-pub mod Bytes

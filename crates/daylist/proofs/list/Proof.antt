@@ -1,60 +1,53 @@
 -- `daylist::list` meets its contract.
-use Prim.Native.Nat.{ℕ}
+use Prim.Native.Nat.{ℕ, _*_, _≤_}
 use native.Mathlib.Omega.{arith}
 use mathlib.Core.Path.{sym, _∙_, ap}
 use mathlib.Core.List.{List}
+use lib.ListN.{length}
 use lib.Seq.{length-take-le}
 use borrow.Author.Needs.{needs}
 use Rattle.listing.specs.Room.{writtenOf, textBuffer}
-use Rattle.daylist.proofs.Laws.Listing.{few-lines, within, stored-numbers}
+use Rattle.daylist.proofs.Laws.Listing.{how-many, few-listed, within, stored-numbers}
 use Rattle.daylist.proofs.list.Statement.{statement}
 use Rattle.daylist.proofs.list.Tie as tie
 
-part-requires : tie.Need-part-requires
-part-requires c κs = search needs
-
-slice-aggregate-day : tie.Need-slice-aggregate-day
-slice-aggregate-day c = search needs
-
-slice-aggregate-day-2 : tie.Need-slice-aggregate-day-2
-slice-aggregate-day-2 c = search needs
-
-day-requires : tie.Need-day-requires
-day-requires c κs = search needs
+-- what the day left: its lines, as numbers
+there : (c : tie.After-lines2) → let day = c .before .before .day-of in day .result * 4 ≤ length (day .last .1 .1 .1 .0)
+there c =
+    let args = c .before .before .before .before .before .before .before .args in
+    let day = c .before .before .day-of in
+    within (args .dispatched) (args .input .now) (day .last .1 .1 .1 .0) (day .result) (day .ensures .0) (day .ensures .1)
 
 mul-lines : tie.Need-mul-lines
-mul-lines c = let few = few-lines (c .before .before .before .before .before .before .before .before .args .input .now) (c .before .before .before .before .before .part .result .now) (c .before .before .day .last .1 .1 .0) (c .before .before .day .result) (c .before .before .before .before .before .part .ensures) (c .before .before .day .ensures .0) in omega (arith, few)
-
-array-share-prefix-lines : tie.Need-array-share-prefix-lines
-array-share-prefix-lines c = within (c .before .before .before .before .before .before .before .before .args .input .now) (c .before .before .before .before .before .part .result .now) (c .before .before .day .last .1 .1 .0) (c .before .before .day .result) (c .before .before .before .before .before .part .ensures) (c .before .before .day .ensures .0) (c .before .before .day .ensures .2)
+mul-lines c =
+    let args = c .before .before .before .before .before .before .before .args in
+    let day = c .before .before .day-of in
+    let few = few-listed (args .dispatched) (args .input .now) (day .last .1 .1 .1 .0) (day .result) (day .ensures .0) in
+    omega (arith, few)
 
 slice-aggregate-write : tie.Need-slice-aggregate-write
-slice-aggregate-write c = sym (length-take-le _ _ (within (c .before .before .before .before .before .before .before .before .before .args .input .now) (c .before .before .before .before .before .before .part .result .now) (c .before .before .before .day .last .1 .1 .0) (c .before .before .before .day .result) (c .before .before .before .before .before .before .part .ensures) (c .before .before .before .day .ensures .0) (c .before .before .before .day .ensures .2)))
-
-write-requires : tie.Need-write-requires
-write-requires c κs = search needs
-
-same-length : tie.Need-same-length
-same-length c = search needs
+slice-aggregate-write c = sym (length-take-le _ _ (there (c .before)))
 
 returns : tie.Need-returns
 returns c =
-    let stored = stored-numbers (c .before .before .before .before .before .before .before .before .before .before .before .before .before .args .input .now) (c .before .before .before .before .before .before .before .before .before .before .part .result .now) (c .before .before .before .before .before .before .before .day .last .1 .1 .0) (c .before .before .before .before .before .before .before .day .result) (c .before .before .before .before .before .before .before .before .before .before .part .ensures) (c .before .before .before .before .before .before .before .day .ensures .0) (c .before .before .before .before .before .before .before .day .ensures .2) in
-    let text = c .before .before .before .before .before .before .before .before .before .before .before .before .before .args .text .now in
+    let args = c .before .before .before .before .before .before .before .before .before .before .before .before .args in
+    let day = c .before .before .before .before .before .before .before .day-of in
     let wrote = c .before .before .write in
-    (wrote .ensures .0 ∙ ap (λ (numbers : List ℕ). writtenOf numbers text) stored, wrote .ensures .1 ∙ ap (λ (numbers : List ℕ). textBuffer numbers text) stored)
+    let text = args .text .now in
+    let stored = stored-numbers (args .dispatched) (args .input .now) (day .last .1 .1 .1 .0) (day .result) (day .ensures .0) (day .ensures .1) in
+    let many = how-many (args .dispatched) (args .input .now) (day .last .1 .1 .1 .0) (day .result) (day .ensures .0) in
+    (rw (wrote .ensures .0, stored, many), wrote .ensures .1 ∙ ap (λ (numbers : List ℕ). textBuffer numbers text) stored)
 
 pub list-spec : {M : Type 1} → statement M
 list-spec =
     tie.close
     (tie.spec
-    part-requires
-    slice-aggregate-day
-    slice-aggregate-day-2
-    day-requires
+    (λ c. search needs)
+    (λ c. search needs)
+    (λ c κs. search needs)
     mul-lines
-    array-share-prefix-lines
+    there
     slice-aggregate-write
-    write-requires
-    same-length
+    (λ c κs. search needs)
+    (λ c. search needs)
     returns)

@@ -35,8 +35,8 @@ use Rattle.run_slots.proofs.store as store
 use Rattle.run_slots.proofs.store.Symbol as store-def
 use Rattle.table_calls.proofs.reply as reply
 use Rattle.table_calls.proofs.reply.Symbol as reply-def
-use Rattle.run_table.proofs.Laws.Retakes.{spot, cell, retakes}
-use Rattle.run_table.proofs.Laws.Locals.{stands, at, part}
+use Rattle.run_slots.proofs.Laws.Retakes.{spot, cell, retakes}
+use Rattle.run_slots.proofs.Laws.Locals.{stands, at, part}
 
 -- the contracts that the proofs cite
 module _ {M : Type 1} (𝓤 : URA M) (H : Heap 𝓤) (A : Atoms 𝓤) (mem : Memory → SProp 𝓤) (run : Routine → Fun 𝓤) where

@@ -10,7 +10,7 @@ use denote.Exit.{Last, left}
 use denote.Triple.Clauses.{Ended, Clauses, closing}
 use Rattle.run_slots.proofs.Laws.Walk.{_≡_, refl, ℕ, List, [], _∷_, length, URA, named, imm, w64, tyInt, tyRef, Val, SProp, ent, emp, via, fst∗, id⊢, Lft, GName, Share, ftrue, flft, Heap, WpFn, Tables, Atoms, fact, Given, ‵, _⊛_, ⋆, _$_, _∵_, !, qed, by, move, suffices, frame, done, look, init, forget, stop, from, of-opd, and-then, no-more, assigns, returns, enter, alloc1, alloc0, params1, pass1, pass0, WpFn-mono, owns, Is, usize, RefT, pointee, sliceTy, sliceVal, ShrSlice, Room, slice-vals, shr-slice-tells, plain, owned, Triple, Vals, onEntry, Meets, says, Stays, stay-none, stay-none-slice, walkOf, ends-at, walked, goes-none, goes-none-slice, walk-meets, yes}
 use Rattle.run_slots.proofs.Laws.Frees.{frees-all}
-use Rattle.run_table.proofs.Laws.Locals.{copied, copied-part, lands-at}
+use Rattle.run_slots.proofs.Laws.Locals.{copied, copied-part, lands-at}
 use Rattle.run_slots.proofs.Laws.Data.{Data, word, Values, Asked, asks}
 use Rattle.run_slots.proofs.Laws.Over.{Reading}
 use Rattle.run_table.proofs.Laws.Sorts.{head, answer}

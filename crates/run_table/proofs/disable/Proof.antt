@@ -30,8 +30,8 @@ use Rattle.table_calls.proofs.disable.Met as step-thm
 use Rattle.table_calls.proofs.reply.Symbol as reply-def
 use Rattle.table_calls.proofs.reply.Met as reply-thm
 use Rattle.run_table.proofs.Laws.Sorts.{head, answer, change}
-use Rattle.run_table.proofs.Laws.Locals.{holds, leaves, copied, copied-part, lands-at}
-use Rattle.run_table.proofs.Laws.Retakes.{retakes}
+use Rattle.run_slots.proofs.Laws.Locals.{holds, leaves, copied, copied-part, lands-at}
+use Rattle.run_slots.proofs.Laws.Retakes.{retakes}
 use Rattle.run_table.proofs.Laws.Alters.{Store, Replies, so-left, settles, Post, Start, exits, meets}
 use Rattle.run_table.proofs.disable.Key.{name as #disable}
 use Rattle.run_table.proofs.disable as disables

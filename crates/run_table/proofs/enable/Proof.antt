@@ -46,7 +46,7 @@ use Rattle.table_calls.proofs.reply.Symbol as reply-def
 use Rattle.table_calls.proofs.reply.Met as reply-thm
 use Rattle.run_table.proofs.Laws.Sorts.{head, answer, change, inquiry}
 use Rattle.run_table.proofs.Laws.Alters.{Store, Replies, so-left, settles, Post, Start, exits, meets}
-use Rattle.run_table.proofs.Laws.Locals.{Held, room, holds, locals, leaves, copied, copied-part, lands-at}
+use Rattle.run_slots.proofs.Laws.Locals.{Held, room, holds, locals, leaves, copied, copied-part, lands-at}
 use Rattle.run_table.proofs.Laws.Searches.{Find, searches}
 use Rattle.run_table.proofs.enable.Key.{name as #enable}
 use Rattle.run_table.proofs.enable as enables

@@ -26,8 +26,8 @@ use Rattle.table_calls.proofs.heads.beginning.Met as first-thm
 use Rattle.table_calls.proofs.heads.begun as last
 use Rattle.table_calls.proofs.heads.begun.Symbol as last-def
 use Rattle.table_calls.proofs.heads.begun.Met as last-thm
-use Rattle.run_table.proofs.Laws.Locals.{holds, leaves, copied, copied-part, lands-at}
-use Rattle.run_table.proofs.Laws.Retakes.{retakes}
+use Rattle.run_slots.proofs.Laws.Locals.{holds, leaves, copied, copied-part, lands-at}
+use Rattle.run_slots.proofs.Laws.Retakes.{retakes}
 use Rattle.run_table.proofs.start.Key.{name as #start}
 use Rattle.run_table.proofs.start as start
 use Rattle.run_table.proofs.start.Statement as stated

@@ -7,7 +7,7 @@ use Rattle.run_slots.proofs.Laws.Data.{word, byte}
 use Rattle.run_slots.proofs.Laws.Frees.{frees-all}
 use Rattle.run_slots.proofs.Laws.Passed.{before, twice-over, passes, spends}
 use Rattle.run_slots.proofs.Laws.Sorts.{chosen, found}
-use Rattle.run_traffic.proofs.Laws.Bytes.{knows-bytes}
+use Rattle.run_slots.proofs.Laws.Bytes.{knows-bytes}
 use Rattle.run_traffic.proofs.Laws.Sorts.{head, indication-head, inquiry, reception}
 use Rattle.run_traffic.proofs.Laws.Records.{Find, finds}
 use denote.Struct.Laws as LL

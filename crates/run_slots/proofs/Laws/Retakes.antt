@@ -15,7 +15,7 @@ use ghost.Atoms.{Atoms}
 use types.Kit.{Given, Item, ‵, nth, put, Post, Step, step, runs, _$_}
 use types.Part.{whole, sub, agg}
 use types.Run.{look, init, stop, hop, fld, load, and-then, no-more, addr, assigns}
-use Rattle.run_table.proofs.Laws.Locals.{stands, at, part}
+use Rattle.run_slots.proofs.Laws.Locals.{stands, at, part}
 use denote.Slice.{sliceTy, sliceVal}
 
 -- of an equation of two rows, of spots and of entries of a context, the equation at one place

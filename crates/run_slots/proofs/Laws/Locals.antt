@@ -3,7 +3,8 @@
 --     stands       where a local stands in a context that has n entries before the locals
 --     copied, copied-part      an operand that is a local, or a field of one: which local it is says the code, and `refl` finds what it holds
 --     lands-at     the result of a call is stored in a local
---     leaves       where the function returns, all of them are freed in one step, whatever they hold
+--     leaves       where the function returns, all of them are freed in one step, whatever they hold, with four entries before them
+--     leaves-eight the same with eight
 -- Assumes `Given`.
 use mathlib.Core.Path.{_≡_, refl, sym, subst}
 use Prim.Native.Nat.{ℕ, zero, suc, _+_, _-_, _*_}
@@ -64,6 +65,11 @@ module _ {M : Type 1} {𝓤 : URA M} {H : Heap 𝓤} {A : Atoms 𝓤} {K : Type 
   leaves t {a} {b} {c} {d} {E} hs = let four = a ∷ b ∷ c ∷ d ∷ [] in step (λ s. by t
       (via 𝓤 (sep 𝓤 (⋆ 𝓤 H A four) (⋆ 𝓤 H A (locals 𝓤 H E hs))) (⊢++ 𝓤 H A four (locals 𝓤 H E hs)) (via 𝓤 (sep 𝓤 (⋆ 𝓤 H A four) (⋆ 𝓤 H A (rooms 𝓤 H E))) (monoR 𝓤 (⋆ 𝓤 H A four) (emptied 𝓤 H A W E hs))
       (via 𝓤 (⋆ 𝓤 H A (four ++ rooms 𝓤 H E)) (++⊢ 𝓤 H A four (rooms 𝓤 H E)) ((frees-all t 4 {Γ = a ∷ b ∷ c ∷ d ∷ rooms 𝓤 H E} {E = E} refl $ s) .prf)))))
+
+  pub leaves-eight : K → {a b c d e f i j : Item 𝓤} {E : Env 𝓤 H} (hs : List Held) → Step K W (a ∷ b ∷ c ∷ d ∷ e ∷ f ∷ i ∷ j ∷ []) g (a ∷ b ∷ c ∷ d ∷ e ∷ f ∷ i ∷ j ∷ locals 𝓤 H E hs) (frees E g)
+  leaves-eight t {a} {b} {c} {d} {e} {f} {i} {j} {E} hs = let eight = a ∷ b ∷ c ∷ d ∷ e ∷ f ∷ i ∷ j ∷ [] in step (λ s. by t
+      (via 𝓤 (sep 𝓤 (⋆ 𝓤 H A eight) (⋆ 𝓤 H A (locals 𝓤 H E hs))) (⊢++ 𝓤 H A eight (locals 𝓤 H E hs)) (via 𝓤 (sep 𝓤 (⋆ 𝓤 H A eight) (⋆ 𝓤 H A (rooms 𝓤 H E))) (monoR 𝓤 (⋆ 𝓤 H A eight) (emptied 𝓤 H A W E hs))
+      (via 𝓤 (⋆ 𝓤 H A (eight ++ rooms 𝓤 H E)) (++⊢ 𝓤 H A eight (rooms 𝓤 H E)) ((frees-all t 8 {Γ = a ∷ b ∷ c ∷ d ∷ e ∷ f ∷ i ∷ j ∷ rooms 𝓤 H E} {E = E} refl $ s) .prf)))))
 
 module _ {M : Type 1} {𝓤 : URA M} {H : Heap 𝓤} {A : Atoms 𝓤} {K : Type 0} {W : Given 𝓤 H A} where
   -- a local that stands at the spot o
