@@ -11,7 +11,6 @@ use links::Slot;
 use links::StartValues;
 use table_calls::enabling;
 use table_calls::heads;
-ghost use mathlib.Core.Path.{_≡_};
 ghost use Rattle.links.specs.Calls.{enable, disable, setArea, setOwn};
 ghost use Rattle.links.specs.Run.{over, replyOver, startOver, Left, Begins};
 

@@ -1,7 +1,6 @@
 -- `daylist::day_of` meets its contract.
 use Prim.Native.Nat.{_/_}
 use mathlib.Core.Path.{sym, _∙_, ap}
-use mathlib.Core.List.{List}
 use lib.ListN.{length}
 use borrow.Author.Needs.{needs}
 use Rattle.replay.specs.Day.{Day, allNumbers, inFront}

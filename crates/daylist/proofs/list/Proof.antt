@@ -6,7 +6,7 @@ use mathlib.Core.List.{List}
 use lib.ListN.{length}
 use lib.Seq.{length-take-le}
 use borrow.Author.Needs.{needs}
-use Rattle.listing.specs.Room.{writtenOf, textBuffer}
+use Rattle.listing.specs.Room.{textBuffer}
 use Rattle.daylist.proofs.Laws.Listing.{how-many, few-listed, within, stored-numbers}
 use Rattle.daylist.proofs.list.Statement.{statement}
 use Rattle.daylist.proofs.list.Tie as tie
