@@ -10,7 +10,7 @@ ghost use mathlib.Core.List.{[]};
 ghost use Prim.Native.Nat.{_-_};
 ghost use lib.Dec.{ltb};
 ghost use Rattle.replies.specs.Rules.{refusal, _if_, _then_};
-ghost use Rattle.links.specs.Settings.{midOk, interfaceOk, retired, settingsValues, groundRules, settingsRules};
+ghost use Rattle.links.specs.Settings.{midOk, interfaceOk, retired, settingsValues, groundRules};
 ghost use Rattle.links.specs.Calls.{goodDynamic, startValues};
 
 pub fn mid_ok(mid: u64) -> bool
@@ -95,15 +95,4 @@ pub fn ground_refusal(s: Settings) -> u8
         return replies::PREFIX_NOT_GOOD;
     }
     replies::DONE
-}
-
-// The number by which the settings alone refuse an enable: 1, 30, 2, 3 in this order, or 0.
-pub fn settings_refusal(s: Settings) -> u8
-    ensures { λ r. ⌜ r ≡ refusal (settingsRules s) ⌝ }
-{
-    let bad = settings_values_refusal(s);
-    if bad != replies::DONE {
-        return bad;
-    }
-    ground_refusal(s)
 }

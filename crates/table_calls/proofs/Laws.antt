@@ -2,4 +2,5 @@
 pub mod Numbers
 pub mod Places
 pub mod Asked
+pub mod Enabling
 pub mod Together

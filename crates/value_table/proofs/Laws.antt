@@ -1,2 +1,3 @@
 -- The laws of what calls change.
 pub mod Changes
+pub mod Decided

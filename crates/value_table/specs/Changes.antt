@@ -1,5 +1,7 @@
 -- What an enable, a disable and a new own MID change, and a change carried out on the table on which it was decided.
 use Prim.Native.Nat.{ℕ, zero, suc}
+use mathlib.Core.Bool.{cond}
+use lib.Dec.{eqb}
 use lib.ListN.{getD, set}
 use Rattle.replies.specs.Rules.{refusal}
 use Rattle.links.specs.declared.LinkIndex.{LinkIndex}
@@ -11,6 +13,7 @@ use Rattle.links.specs.declared.Slot.{Slot}
 use Rattle.links.specs.declared.Table.{Table}
 use Rattle.links.specs.Slots.{indexAt, placeOf, free, inUse, counted, place, unused}
 use Rattle.links.specs.Calls.{enable, disable, setOwn, rules}
+use Rattle.table_calls.specs.declared.SlotChange.{SlotChange}
 use Rattle.value_table.specs.declared.changes.Change.{Change}
 
 -- what does not change is told as it was: the own MID, and the first slot
@@ -19,6 +22,10 @@ unchangedBy t number = record { number = number; link = Nothing; own = t .own; p
 
 abbrev pub slotChange : Table → PerhapsLink → ℕ → Slot → Change
 slotChange t link k x = record { number = 0; link = link; own = t .own; place = k; slot = x }
+
+-- a change of one slot, as it is decided, over this table
+abbrev pub ofSlot : Table → SlotChange → Change
+ofSlot t c = cond (eqb (c .number) 0) (slotChange t (c .link) (c .place) (c .slot)) (unchangedBy t (c .number))
 
 -- the change where nothing refuses it
 abbrev pub changeOr : ℕ → Table → Change → Change

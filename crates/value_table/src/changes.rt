@@ -1,13 +1,20 @@
 // What an enable, a disable and a new own MID change: the reply without the table. Whoever holds the table carries the change out
-// where the table lies, and no table is copied for it.
+// where the table lies, and no table is copied for it. Enable and disable are decided by `table_calls`. It is told that there are as
+// many slots as the largest maximum asks for: a table by value is never too short.
 use links::LinkIndex;
 use links::PerhapsLink;
 use links::Settings;
 use links::Slot;
 use links::Table;
-use search::Wanted;
+use search::Found;
+use search::inquiry::Inquiry;
+use table_calls::SlotChange;
+use table_calls::enabling;
 ghost use mathlib.Core.Path.{_≡_};
-ghost use Rattle.value_table.specs.Changes.{unchangedBy, slotChange, enableChange, disableChange, ownChange};
+ghost use Rattle.links.specs.Slots.{counted, slotAt};
+ghost use Rattle.search.specs.Search.{passes};
+ghost use Rattle.value_slots.specs.Search.{found};
+ghost use Rattle.value_table.specs.Changes.{unchangedBy, ofSlot, enableChange, disableChange, ownChange};
 
 // The number and the link of the reply, and what the table holds behind the call: its own MID, and one slot by its place. What does
 // not change is told as it was. The DGVL's area is not here: no covered form writes an enum into a table that stays where it is.
@@ -33,64 +40,66 @@ pub fn unchanged(t: Table, number: u8) -> Change
     }
 }
 
-fn with_slot(t: Table, link: PerhapsLink, place: usize, slot: Slot) -> Change
-    ensures { λ r. ⌜ r ≡ slotChange t link place slot ⌝ }
+// A change of one slot, as it is decided, over this table.
+fn of_slot(t: Table, c: SlotChange) -> Change
+    ensures { λ r. ⌜ r ≡ ofSlot t c ⌝ }
 {
+    if c.number != replies::DONE {
+        return unchanged(t, c.number);
+    }
+    let link = c.link;
+    let slot = c.slot;
     Change {
         number: replies::DONE,
         link: link,
         own: t.own,
-        place: place,
+        place: c.place,
         slot: slot,
     }
 }
 
+// Its refusals return at once, so that no slot is asked for them.
 pub fn enable(t: Table, s: Settings) -> Change
     ensures { λ r. ⌜ r ≡ enableChange t s ⌝ }
 {
-    let bad = links::checks::settings_refusal(s);
-    if bad != replies::DONE {
-        return unchanged(t, bad);
+    let ground = enabling::ground(links::MOST, links::SLOTS, s);
+    if ground.number != replies::DONE {
+        return unchanged(t, ground.number);
     }
-    let area = s.area;
-    let same = value_slots::find(t, Wanted::SameGround(area));
-    if same.any {
-        return unchanged(t, replies::AREA_IN_USE);
+    let wanted = ground.wanted;
+    let same = value_slots::find(t, wanted);
+    let overlap = enabling::overlap(ground, same, s);
+    if overlap.number != replies::DONE {
+        return unchanged(t, overlap.number);
     }
-    let prefix = s.prefix;
-    let overlapping = value_slots::find(t, Wanted::Overlapping(prefix));
-    if overlapping.any {
-        return unchanged(t, replies::PREFIX_OVERLAPS);
+    let wanted = overlap.wanted;
+    let overlapping = value_slots::find(t, wanted);
+    let unused = enabling::unused(overlap, overlapping);
+    if unused.number != replies::DONE {
+        return unchanged(t, unused.number);
     }
-    let unused = value_slots::find(t, Wanted::Unused);
-    if !unused.any {
-        return unchanged(t, replies::NO_INDEX_FREE);
+    let wanted = unused.wanted;
+    let lowest = value_slots::find(t, wanted);
+    of_slot(t, enabling::change(unused, lowest, links::SLOTS, s))
+}
+
+// The slot of a link. A fixed link is asked for none, so that no table is copied.
+fn slot_of(t: Table, index: LinkIndex) -> Slot
+    ensures { λ r. ⌜ r ≡ slotAt (counted t) index ⌝ }
+{
+    if index.0 < LinkIndex::FIRST_STOP.0 {
+        return links::blank_slot();
     }
-    let link = unused.link;
-    let index = link.index;
-    let slot = Slot {
-        enabled: true,
-        settings: s,
-    };
-    with_slot(t, PerhapsLink::Link(index), unused.place, slot)
+    value_slots::slot_at(t, index)
 }
 
 pub fn disable(t: Table, index: LinkIndex) -> Change
     ensures { λ r. ⌜ r ≡ disableChange t index ⌝ }
 {
-    if index.0 < LinkIndex::FIRST_STOP.0 {
-        return unchanged(t, replies::FIXED_LINK);
-    }
-    let slot = value_slots::slot_at(t, index);
-    if !slot.enabled {
-        return unchanged(t, replies::NO_SUCH_LINK);
-    }
-    let gone = links::blank_slot();
-    with_slot(
+    let slot = slot_of(t, index);
+    of_slot(
         t,
-        PerhapsLink::Nothing,
-        index.0 - LinkIndex::FIRST_STOP.0,
-        gone,
+        table_calls::disable(links::MOST, links::SLOTS, index, slot),
     )
 }
 

@@ -1,11 +1,10 @@
--- A question behind another: what is asked, and with what number, by the answer of the slots that count. A call that is refused before
--- asks of no slots, and its number stays.
+-- A question behind another: what is asked, and with what number, by the answers of the slots that count, whatever the layout of the
+-- table. A call that is refused before asks no more: its number stays, and what it is answered is no matter.
 use Prim.Native.Nat.{ℕ, zero, suc}
 use mathlib.Core.Path.{_≡_, refl, sym, _∙_, ap}
 use mathlib.Core.Bool.{Bool, true, false, cond, not}
 use mathlib.Core.List.{List}
 use lib.Dec.{eqb, eqb·suc-zero}
-use lib.ListN.{take}
 use Rattle.links.specs.declared.Chosen.{Chosen}
 use Rattle.links.specs.declared.PerhapsLink.the-variants.{Link}
 use Rattle.links.specs.declared.Settings.{Settings}
@@ -16,56 +15,72 @@ use Rattle.search.specs.declared.Wanted.{Wanted}
 use Rattle.search.specs.declared.Wanted.the-variants.{Unused}
 use Rattle.search.specs.declared.inquiry.Inquiry.{Inquiry}
 use Rattle.search.specs.Inquiry.{asking, after}
-use Rattle.search.specs.Search.{passes, asked, fits, foundIn}
-use Rattle.search.proofs.Laws.Asked.{asks-the-ground}
+use Rattle.search.specs.Search.{passes, asked, foundIn}
 use Rattle.table_calls.specs.declared.SlotChange.{SlotChange}
 use Rattle.table_calls.specs.Steps.{unchangedBy, enabled}
 use Rattle.table_calls.proofs.Laws.Numbers.{number-stays}
 
--- what the records answer
-abbrev pub answered : List Slot → Inquiry → Found
-answered run i = foundIn (take (i .count) run) (fits (i .wanted)) (i .otherwise)
+-- what the slots answer to a question that is asked, where `none` is given for none
+abbrev pub Answers : List Slot → Chosen → Wanted → Inquiry → Found → Type 0
+Answers l none wanted i f = i .number ≡ 0 → f ≡ foundIn l (passes wanted) none
 
 -- the change, or the refusal by its number
 abbrev pub changeOr : ℕ → SlotChange → ℕ → SlotChange
 changeOr n c records = cond (eqb n 0) c (unchangedBy n records)
 
--- a number that is not 0 asks for nothing, and changes nothing
-asks-nothing : (n k count : ℕ) (b : Bool) (wanted : Wanted) (otherwise : Chosen)
-    → asking (after (suc n) k b) count wanted otherwise ≡ record { number = suc n; count = 0; wanted = Unused; otherwise = otherwise }
-asks-nothing n k count b wanted otherwise = ap (λ (m : ℕ). asking m count wanted otherwise) (number-stays n k b) ∙ rw (eqb·suc-zero n)
+-- the lowest index that is unused is taken
+abbrev pub taken : List Slot → Settings → SlotChange
+taken l s = record { number = 0; link = Link (indexAt (place unused l)); place = place unused l; slot = inUse s }
 
-changes-nothing : (n k : ℕ) (b : Bool) (c : SlotChange) (records : ℕ) → changeOr (after (suc n) k b) c records ≡ unchangedBy (suc n) records
-changes-nothing n k b c records = ap (λ (m : ℕ). changeOr m c records) (number-stays n k b) ∙ rw (eqb·suc-zero n)
+module _ (count : ℕ) (otherwise : Chosen) where
+  abbrev asks : ℕ → Wanted → Inquiry
+  asks n wanted = asking n count wanted otherwise
 
-module _ (run : List Slot) (count : ℕ) (otherwise : Chosen) where
-  refused : (n : ℕ) (wanted : Wanted) → asking (suc n) count wanted otherwise ≡ record { number = suc n; count = 0; wanted = Unused; otherwise = otherwise }
-  refused n wanted = rw (eqb·suc-zero n)
+  pub number-of : (n : ℕ) (wanted : Wanted) → asks n wanted .number ≡ n
+  number-of zero wanted = refl
+  number-of (suc n) wanted = rw (eqb·suc-zero n)
 
-  pub next : (n k : ℕ) (wanted then : Wanted) → let i = asking n count wanted otherwise in
-      asking (after (i .number) k (answered run i .any)) (i .count) then (i .otherwise) ≡ asking (after n k (any (passes wanted) (take count run))) count then otherwise
-  unfolding any
-  next zero k wanted then =
-      ap (λ (q : Slot → Bool). asking (after 0 k (any q (take count run))) count then otherwise) (asks-the-ground wanted (asked wanted) refl)
-  next (suc n) k wanted then =
-      ap (λ (i : Inquiry). asking (after (i .number) k (answered run i .any)) (i .count) then (i .otherwise)) (refused n wanted)
-      ∙ asks-nothing n k 0 false then otherwise
-      ∙ sym (asks-nothing n k count (any (passes wanted) (take count run)) then otherwise)
+  -- where nothing refuses it, the question is asked as it stands
+  pub as-it-stands : (n : ℕ) (wanted : Wanted) (i : Inquiry) → i ≡ asks n wanted → i .number ≡ 0 → i ≡ asks 0 wanted
+  as-it-stands n wanted i e z = e ∙ ap (λ (m : ℕ). asks m wanted) (sym (number-of n wanted) ∙ ap (λ (j : Inquiry). j .number) (sym e) ∙ z)
 
-  -- the last question is for the lowest index that is unused
-  abbrev pub taken : Settings → SlotChange
-  taken s = record { number = 0; link = Link (indexAt (place unused (take count run))); place = place unused (take count run); slot = inUse s }
+  -- a number that is not 0 asks for nothing, and changes nothing
+  refused : (n most : ℕ) (wanted : Wanted) → asking (suc n) most wanted otherwise ≡ record { number = suc n; count = 0; wanted = Unused; otherwise = otherwise }
+  refused n most wanted = rw (eqb·suc-zero n)
 
-  pub last : (n records : ℕ) (s : Settings) → let i = asking n count Unused otherwise in
-      enabled i (answered run i) records s ≡ changeOr (after n 6 (not (any unused (take count run)))) (taken s) records
-  unfolding any place
-  last zero records s = go (any unused (take count run)) refl
-    where
-      go : (b : Bool) → any unused (take count run) ≡ b → let i = asking 0 count Unused otherwise in
-          enabled i (answered run i) records s ≡ changeOr (after 0 6 (not b)) (taken s) records
-      go true e = rw e
-      go false e = rw e
-  last (suc n) records s =
-      ap (λ (i : Inquiry). enabled i (answered run i) records s) (refused n Unused)
-      ∙ changes-nothing n 6 true (record { number = 0; link = Link (otherwise .index); place = 0; slot = inUse s }) records
-      ∙ sym (changes-nothing n 6 (not (any unused (take count run))) (taken s) records)
+  nothing-asked : (n k most : ℕ) (b : Bool) (wanted : Wanted)
+      → asking (after (suc n) k b) most wanted otherwise ≡ record { number = suc n; count = 0; wanted = Unused; otherwise = otherwise }
+  nothing-asked n k most b wanted = ap (λ (m : ℕ). asking m most wanted otherwise) (number-stays n k b) ∙ refused n most wanted
+
+  nothing-changed : (n : ℕ) (b : Bool) (c : SlotChange) (records : ℕ) → changeOr (after (suc n) 6 b) c records ≡ unchangedBy (suc n) records
+  nothing-changed n b c records = ap (λ (m : ℕ). changeOr m c records) (number-stays n 6 b) ∙ rw (eqb·suc-zero n)
+
+  module _ (l : List Slot) (none : Chosen) where
+    -- the next question, behind one that refuses by number k where a slot is found
+    pub next : (n k : ℕ) (wanted then : Wanted) (i : Inquiry) (f : Found) → i ≡ asks n wanted → Answers l none wanted i f
+        → asking (after (i .number) k (f .any)) (i .count) then (i .otherwise) ≡ asks (after n k (any (passes wanted) l)) then
+    next n k wanted then i f e a = ap (λ (j : Inquiry). asking (after (j .number) k (f .any)) (j .count) then (j .otherwise)) e ∙ go n (λ z. a (ap (λ (j : Inquiry). j .number) e ∙ number-of n wanted ∙ z))
+      where
+        go : (m : ℕ) → (m ≡ 0 → f ≡ foundIn l (passes wanted) none)
+            → asking (after (asks m wanted .number) k (f .any)) (asks m wanted .count) then (asks m wanted .otherwise) ≡ asks (after m k (any (passes wanted) l)) then
+        go zero a = ap (λ (g : Found). asks (after 0 k (g .any)) then) (a refl)
+        go (suc m) a =
+            ap (λ (j : Inquiry). asking (after (j .number) k (f .any)) (j .count) then (j .otherwise)) (refused m count wanted)
+            ∙ nothing-asked m k 0 (f .any) then
+            ∙ sym (nothing-asked m k count (any (passes wanted) l) then)
+
+    -- the last question is for an index that is unused
+    pub last : (n records : ℕ) (s : Settings) (i : Inquiry) (f : Found) → i ≡ asks n Unused → Answers l none Unused i f
+        → enabled i f records s ≡ changeOr (after n 6 (not (any unused l))) (taken l s) records
+    last n records s i f e a = ap (λ (j : Inquiry). enabled j f records s) e ∙ go n (λ z. a (ap (λ (j : Inquiry). j .number) e ∙ number-of n Unused ∙ z))
+      where
+        found : (b : Bool) → any unused l ≡ b → enabled (asks 0 Unused) (foundIn l unused none) records s ≡ changeOr (after 0 6 (not b)) (taken l s) records
+        found true h = rw h
+        found false h = rw h
+
+        go : (m : ℕ) → (m ≡ 0 → f ≡ foundIn l unused none) → enabled (asks m Unused) f records s ≡ changeOr (after m 6 (not (any unused l))) (taken l s) records
+        go zero a = ap (λ (g : Found). enabled (asks 0 Unused) g records s) (a refl) ∙ found (any unused l) refl
+        go (suc m) a =
+            ap (λ (n : ℕ). changeOr (after n 6 (not (f .any))) (record { number = 0; link = Link (f .link .index); place = f .place; slot = inUse s }) records) (number-of (suc m) Unused)
+            ∙ nothing-changed m (not (f .any)) (record { number = 0; link = Link (f .link .index); place = f .place; slot = inUse s }) records
+            ∙ sym (nothing-changed m (not (any unused l)) (taken l s) records)

@@ -2,26 +2,33 @@
 use Prim.Native.Nat.{ℕ, zero, suc, _-_}
 use native.Mathlib.Omega.{arith}
 use mathlib.Core.Path.{_≡_, refl, sym, _∙_, ap}
+use mathlib.Core.Logic.{_≢_}
 use mathlib.Core.Bool.{Bool, true, false, cond, not}
 use mathlib.Core.List.{List, [], _∷_, _++_}
 use lib.Dec.{eqb, ltb, eqb·suc-zero, lit<}
 use lib.ListN.{length}
+use borrow.Author.Tests.{ne-eqb}
 use Rattle.replies.specs.Rules.{Rule, _if_, _then_, refusal, None}
 use Rattle.replies.proofs.Laws.Refusals.{Numbered, done-exactly, numbered-append, refusal-more, refusal-next, refusal-past}
 use Rattle.links.specs.declared.Head.{Head}
 use Rattle.links.specs.declared.Settings.{Settings}
 use Rattle.links.specs.declared.Slot.{Slot}
 use Rattle.links.specs.Settings.{settingsValues, groundRules, settingsRules, sameGround, overlaps}
-use Rattle.links.specs.Slots.{counted, any, unused, with}
+use Rattle.links.specs.Slots.{counted, any, unused}
 use Rattle.links.specs.Calls.{enable, rules, slotRules}
 use Rattle.links.specs.Run.{over, tooShort, rulesOver}
 use Rattle.links.proofs.Laws.Replies.{values-numbered}
+use Rattle.search.specs.declared.Wanted.the-variants.{SameGround, Overlapping}
 use Rattle.search.specs.Inquiry.{after}
+use Rattle.search.specs.Search.{passes}
 use Rattle.table_calls.specs.Steps.{enableRules}
 
 -- a number that is not 0 stays
 pub number-stays : (n k : ℕ) (b : Bool) → after (suc n) k b ≡ suc n
 number-stays n k b = rw (eqb·suc-zero n)
+
+pub stays : (n k : ℕ) (b : Bool) → n ≢ 0 → after n k b ≡ n
+stays n k b h = rw (ne-eqb n 0 h)
 
 -- of two lists the second is asked where the first gives 0
 pub first-of : (rs more : List Rule) → Numbered rs → refusal (rs ++ more) ≡ cond (eqb (refusal rs) 0) (refusal more) (refusal rs)
@@ -81,16 +88,59 @@ module _ (values : List Rule) where
           refusal-more values _ (suc n) (omega arith) e
           ∙ sym (refusal-more (values ++ (23 if short then ground)) slots (suc n) (omega arith) (refusal-more values (23 if short then ground) (suc n) (omega arith) e))
 
+-- a rule that does not hold is passed over
+not-short : (values ground slots : List Rule) → refusal ((values ++ (23 if false then ground)) ++ slots) ≡ refusal ((values ++ ground) ++ slots)
+not-short [] ground slots = refl
+not-short (r ∷ values) ground slots = ap (cond (r .holds) (r .number)) (not-short values ground slots)
+
 before-numbered : (max records : ℕ) (s : Settings) → Numbered (enableRules max records s)
 unfolding enableRules groundRules
 before-numbered max records s = numbered-append (settingsValues s) _ (values-numbered s) (lit< tt, (lit< tt, (lit< tt, tt)))
 
--- the numbers of an enable over a run, one after the other, are those of its list
-pub by-enable : (h : Head) (run : List Slot) (s : Settings) → let l = counted (over h run) in
-    refusal (rulesOver (over h run) (enable s))
-    ≡ after (after (after (refusal (enableRules (h .max) (length run) s)) 4 (any (with (λ r. sameGround r s)) l)) 5 (any (with (λ r. overlaps r s)) l)) 6 (not (any unused l))
-unfolding rulesOver rules settingsRules slotRules enableRules
-by-enable h run s =
-    let l = counted (over h run) in
-    once-more (settingsValues s) (groundRules s) (slotRules l s) (tooShort (h .max) run) (values-numbered s)
-    ∙ slots-behind (enableRules (h .max) (length run) s) _ _ _ (before-numbered (h .max) (length run) s)
+-- what the settings and the slots refuse an enable by, the first number that is not 0
+module _ (max records : ℕ) (s : Settings) (l : List Slot) where
+  abbrev bySettings : ℕ
+  bySettings = refusal (enableRules max records s)
+
+  abbrev sameOne : Bool
+  sameOne = any (passes (SameGround (s .area))) l
+
+  abbrev pub byGround : ℕ
+  byGround = after bySettings 4 sameOne
+
+  abbrev overlapping : Bool
+  overlapping = any (passes (Overlapping (s .prefix))) l
+
+  abbrev pub byPrefix : ℕ
+  byPrefix = after byGround 5 overlapping
+
+  abbrev allUsed : Bool
+  allUsed = not (any unused l)
+
+  abbrev pub byAll : ℕ
+  byAll = after byPrefix 6 allUsed
+
+  -- the first of them that is not 0 is that of all
+  pub prefix-first : byPrefix ≢ 0 → byAll ≡ byPrefix
+  prefix-first h = stays byPrefix 6 allUsed h
+
+  pub ground-first : byGround ≢ 0 → byAll ≡ byGround
+  ground-first h = let same = stays byGround 5 overlapping h in prefix-first (λ z. h (sym same ∙ z)) ∙ same
+
+  pub settings-first : bySettings ≢ 0 → byAll ≡ bySettings
+  settings-first h = let same = stays bySettings 4 sameOne h in ground-first (λ z. h (sym same ∙ z)) ∙ same
+
+  in-order : refusal (enableRules max records s ++ slotRules l s) ≡ byAll
+  unfolding slotRules sameGround overlaps
+  in-order = slots-behind (enableRules max records s) _ _ _ (before-numbered max records s)
+
+  -- they are those of its list, where there are slots enough, and over a run
+  pub by-enable : ltb records (max - 1) ≡ false → refusal (rules l (enable s)) ≡ byAll
+  unfolding rules settingsRules enableRules
+  by-enable e = sym (rw e (not-short (settingsValues s) (groundRules s) (slotRules l s))) ∙ in-order
+
+pub by-enable-over : (h : Head) (run : List Slot) (s : Settings) → refusal (rulesOver (over h run) (enable s)) ≡ byAll (h .max) (length run) s (counted (over h run))
+unfolding rulesOver rules settingsRules enableRules
+by-enable-over h run s =
+    once-more (settingsValues s) (groundRules s) (slotRules (counted (over h run)) s) (tooShort (h .max) run) (values-numbered s)
+    ∙ in-order (h .max) (length run) s (counted (over h run))

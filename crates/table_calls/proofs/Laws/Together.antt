@@ -18,21 +18,24 @@ use Rattle.links.specs.declared.Reply.{Reply}
 use Rattle.links.specs.declared.Settings.{Settings}
 use Rattle.links.specs.declared.Slot.{Slot}
 use Rattle.links.specs.declared.StartValues.{StartValues}
-use Rattle.links.specs.Settings.{midOk, sameGround, overlaps}
-use Rattle.links.specs.Slots.{free, counted, any, unused}
+use Rattle.links.specs.Settings.{midOk}
+use Rattle.links.specs.Slots.{free, counted}
 use Rattle.links.specs.Calls.{TableCall, enable, disable, setArea, setOwn, rules, linkAfter, tableAfter, answer, cleared}
 use Rattle.links.specs.Run.{over, tooShort, rulesOver, replyOver, Left, startRulesOver, beginOver, startOver}
 use Rattle.search.specs.declared.Found.{Found}
+use Rattle.search.specs.declared.Wanted.{Wanted}
 use Rattle.search.specs.declared.Wanted.the-variants.{Unused, SameGround, Overlapping}
 use Rattle.search.specs.declared.inquiry.Inquiry.{Inquiry}
-use Rattle.search.specs.Inquiry.{asking, after}
-use Rattle.search.specs.Search.{passes, fits, foundIn}
+use Rattle.search.specs.Inquiry.{asking}
+use Rattle.search.specs.Search.{asked, fits, foundIn}
+use Rattle.search.proofs.Laws.Asked.{asks-the-ground}
 use Rattle.table_calls.specs.declared.SlotChange.{SlotChange}
 use Rattle.table_calls.specs.declared.heads.StartOrder.{StartOrder}
 use Rattle.table_calls.specs.Steps.{slotPlace, enableRules, noLink, groundAsked, overlapAsked, unusedAsked, enabled, disabled, headOr, areaSet, ownSet, beginning, begun}
-use Rattle.table_calls.proofs.Laws.Numbers.{by-enable}
+use Rattle.table_calls.proofs.Laws.Numbers.{byGround, byPrefix, byAll, by-enable-over}
 use Rattle.table_calls.proofs.Laws.Places.{slot-at-place}
-use Rattle.table_calls.proofs.Laws.Asked.{answered, changeOr, next, taken, last}
+use Rattle.table_calls.proofs.Laws.Asked.{Answers, changeOr, taken, as-it-stands}
+use Rattle.table_calls.proofs.Laws.Enabling.{second, third, changed}
 
 -- the reply of a call that changes a slot, stored in the run
 abbrev pub stored : Head → List Slot → SlotChange → Reply
@@ -54,31 +57,25 @@ module _ (h : Head) (run : List Slot) where
       → lowest ≡ foundIn (take (u .count) run) (fits (u .wanted)) (u .otherwise)
       → c ≡ enabled u lowest (length run) s
       → record { number = c .number; link = c .link; table = over h (set run (c .place) (c .slot)) } ≡ replyOver (over h run) (enable s)
-  unfolding replyOver linkAfter tableAfter sameGround overlaps
+  unfolding replyOver linkAfter tableAfter
   enable-together s g o u same overlapping lowest c eg es eo ef eu el ec =
-      let count = h .max - 1 in
       let l = counted (over h run) in
-      let n0 = refusal (enableRules (h .max) (length run) s) in
-      let n1 = after n0 4 (any (passes (SameGround (s .area))) l) in
-      let n2 = after n1 5 (any (passes (Overlapping (s .prefix))) l) in
-      let second : o ≡ asking n1 count (Overlapping (s .prefix)) noLink =
-      eo
-      ∙ ap (λ (f : Found). overlapAsked g f s) es
-      ∙ ap (λ (i : Inquiry). overlapAsked i (answered run i) s) eg
-      ∙ next run count noLink n0 4 (SameGround (s .area)) (Overlapping (s .prefix)) in
-      let third : u ≡ asking n2 count Unused noLink =
-      eu
-      ∙ ap (λ (f : Found). unusedAsked o f) ef
-      ∙ ap (λ (i : Inquiry). unusedAsked i (answered run i)) second
-      ∙ next run count noLink n1 5 (Overlapping (s .prefix)) Unused in
-      let change : c ≡ changeOr (after n2 6 (not (any unused l))) (taken run count noLink s) (length run) =
-      ec
-      ∙ ap (λ (f : Found). enabled u f (length run) s) el
-      ∙ ap (λ (i : Inquiry). enabled i (answered run i) (length run) s) third
-      ∙ last run count noLink n2 (length run) s in
-      ap (stored h run) change
-      ∙ by-number h run (enable s) (taken run count noLink s) refl (after n2 6 (not (any unused l)))
-      ∙ ap (λ (k : ℕ). answer k (over h run) (enable s)) (sym (by-enable h run s))
+      let n = byAll (h .max) (length run) s l in
+      let two : o ≡ asking (byGround (h .max) (length run) s l) (h .max - 1) (Overlapping (s .prefix)) noLink =
+      second (h .max) (length run) s l noLink g o same eg (answers (refusal (enableRules (h .max) (length run) s)) (SameGround (s .area)) g same eg es) eo in
+      let three : u ≡ asking (byPrefix (h .max) (length run) s l) (h .max - 1) Unused noLink =
+      third (h .max) (length run) s l noLink o u overlapping two (answers (byGround (h .max) (length run) s l) (Overlapping (s .prefix)) o overlapping two ef) eu in
+      ap (stored h run) (changed (h .max) (length run) s l noLink u lowest c three (answers (byPrefix (h .max) (length run) s l) Unused u lowest three el) ec)
+      ∙ by-number h run (enable s) (taken l s) refl n
+      ∙ ap (λ (k : ℕ). answer k (over h run) (enable s)) (sym (by-enable-over h run s))
+    where
+      -- the records that count answer
+      answers : (n : ℕ) (wanted : Wanted) (i : Inquiry) (f : Found) → i ≡ asking n (h .max - 1) wanted noLink
+          → f ≡ foundIn (take (i .count) run) (fits (i .wanted)) (i .otherwise) → Answers (counted (over h run)) noLink wanted i f
+      answers n wanted i f ei ef z =
+          ef
+          ∙ ap (λ (j : Inquiry). foundIn (take (j .count) run) (fits (j .wanted)) (j .otherwise)) (as-it-stands (h .max - 1) noLink n wanted i ei z)
+          ∙ ap (λ (q : Slot → Bool). foundIn (counted (over h run)) q noLink) (asks-the-ground wanted (asked wanted) refl)
 
   pub disable-together : (i : LinkIndex) (x : Slot) (c : SlotChange)
       → x ≡ getD run (slotPlace (h .max) (length run) i) free

@@ -1,73 +1,66 @@
 -- `value_table::changes::enable` meets its contract.
-use Prim.Native.Nat.{_<_}
-use native.Mathlib.Omega.{arith}
-use mathlib.Core.Path.{_≡_, sym, _∙_, ap}
-use lib.Dec.{lit<}
-use borrow.Author.Tests.{not-true, not-false}
+use mathlib.Core.Path.{_≡_, _∙_}
 use Rattle.replies.specs.Rules.{refusal}
-use Rattle.links.specs.Settings.{sameGround, overlaps}
-use Rattle.links.specs.Slots.{indexAt, counted, any, place, unused, with}
-use Rattle.links.specs.Calls.{enable, rules, slotRules}
-use Rattle.links.proofs.Laws.Replies.{by-settings, by-slots}
-use Rattle.search.specs.declared.Found.{Found}
-use Rattle.value_table.specs.Changes.{enableChange}
-use Rattle.value_table.proofs.Laws.Changes.{change-refused, change-done}
+use Rattle.links.specs.Slots.{dgvlIndex, counted}
+use Rattle.links.specs.Index.{chosen}
+use Rattle.search.specs.declared.Wanted.the-variants.{Unused, SameGround, Overlapping}
+use Rattle.search.specs.Inquiry.{asking}
+use Rattle.table_calls.specs.Steps.{enableRules, noLink}
+use Rattle.table_calls.proofs.Laws.Numbers.{byGround, byPrefix, prefix-first, ground-first, settings-first}
+use Rattle.table_calls.proofs.Laws.Enabling.{second, third, changed}
+use Rattle.value_table.proofs.Laws.Decided.{answers, enable-refused, enable-decided}
 use Rattle.value_table.proofs.changes.enable.Statement.{statement}
 use Rattle.value_table.proofs.changes.enable.Tie as tie
 
--- the settings are good: the slots decide
-passed : (c : tie.Else1) → refusal (rules (counted (c .before .before .args .t)) (enable (c .before .before .args .s))) ≡ refusal (slotRules (counted (c .before .before .args .t)) (c .before .before .args .s))
-passed c = by-slots (counted (c .before .before .args .t)) (c .before .before .args .s) (sym (c .before .settings-refusal .ensures) ∙ c .if1 .left)
+-- what is asked behind the answers so far
+asks-for-prefix : (c : tie.After-overlap) → let args = c .before .before .before .before .before .args in
+    c .overlap .result ≡ asking (byGround 65 64 (args .s) (counted (args .t))) 64 (Overlapping (args .s .prefix)) noLink
+asks-for-prefix c =
+    let args = c .before .before .before .before .before .args in
+    let g = c .before .before .before .before .ground in
+    second 65 64 (args .s) (counted (args .t)) (chosen (args .t) dgvlIndex) (g .result) _ (c .before .find .result) (g .ensures)
+    (answers (args .t) (refusal (enableRules 65 64 (args .s))) (SameGround (args .s .area)) (g .result) (c .before .find .result) (g .ensures) (c .before .find .ensures))
+    (c .overlap .ensures)
 
--- what each search is told
-ground : (c : tie.After-find) → any (with (λ r. sameGround r (c .before .before .before .before .args .s))) (counted (c .before .before .before .before .args .t)) ≡ c .find .result .any
-unfolding sameGround
-ground c = sym (ap (λ (f : Found). f .any) (c .find .ensures))
-
-prefixes : (c : tie.After-find2) → any (with (λ r. overlaps r (c .before .before .before .before .before .before .before .args .s))) (counted (c .before .before .before .before .before .before .before .args .t)) ≡ c .find2 .result .any
-unfolding overlaps
-prefixes c = sym (ap (λ (f : Found). f .any) (c .find2 .ensures))
-
-free-one : (c : tie.After-find3) → any unused (counted (c .before .before .before .before .before .before .before .before .before .args .t)) ≡ c .find3 .result .any
-free-one c = sym (ap (λ (f : Found). f .any) (c .find3 .ensures))
+asks-for-unused : (c : tie.After-unused) → let args = c .before .before .before .before .before .before .before .before .before .args in
+    c .unused .result ≡ asking (byPrefix 65 64 (args .s) (counted (args .t))) 64 Unused noLink
+asks-for-unused c =
+    let args = c .before .before .before .before .before .before .before .before .before .args in
+    let asked = asks-for-prefix (c .before .before .before .before) in
+    let o = c .before .before .before .before .overlap in
+    third 65 64 (args .s) (counted (args .t)) (chosen (args .t) dgvlIndex) (o .result) _ (c .before .find2 .result) asked
+    (answers (args .t) (byGround 65 64 (args .s) (counted (args .t))) (Overlapping (args .s .prefix)) (o .result) (c .before .find2 .result) asked (c .before .find2 .ensures))
+    (c .unused .ensures)
 
 returns : tie.Need-returns
-unfolding enableChange
 returns c =
-    let args = c .before .before .before .args in
-    let bad = c .before .before .settings-refusal in
-    let some : 0 < bad .result = omega (arith, c .before .if1 .taken) in
-    c .unchanged .ensures ∙ sym (change-refused (args .t) (refusal (rules (counted (args .t)) (enable (args .s)))) _ (bad .result) some (by-settings (counted (args .t)) (args .s) (bad .result) some (sym (bad .ensures))))
+    let args = c .before .before .before .before .args in
+    let g = c .before .before .before .ground in
+    c .unchanged .ensures
+    ∙ enable-refused (args .t) (args .s) (refusal (enableRules 65 64 (args .s))) (SameGround (args .s .area)) (g .result) (g .ensures) (c .before .if1 .taken) (settings-first 65 64 (args .s) (counted (args .t)))
 
 returns-2 : tie.Need-returns-2
-unfolding enableChange slotRules
 returns-2 c =
-    let args = c .before .before .before .before .before .before .args in
-    c .unchanged2 .ensures ∙ sym (change-refused (args .t) (refusal (rules (counted (args .t)) (enable (args .s)))) _ 4 (lit< tt) (passed (c .before .before .before .before) ∙ rw (ground (c .before .before), c .before .if2 .taken)))
+    let args = c .before .before .before .before .before .before .before .before .args in
+    c .unchanged2 .ensures
+    ∙ enable-refused (args .t) (args .s) (byGround 65 64 (args .s) (counted (args .t))) (Overlapping (args .s .prefix)) _ (asks-for-prefix (c .before .before .before)) (c .before .if2 .taken) (ground-first 65 64 (args .s) (counted (args .t)))
 
 returns-3 : tie.Need-returns-3
-unfolding enableChange slotRules
 returns-3 c =
-    let args = c .before .before .before .before .before .before .before .before .before .args in
-    c .unchanged3 .ensures ∙ sym (change-refused (args .t) (refusal (rules (counted (args .t)) (enable (args .s)))) _ 5 (lit< tt) (passed (c .before .before .before .before .before .before .before) ∙ rw (ground (c .before .before .before .before .before), c .before .before .before .before .if2 .left, prefixes (c .before .before), c .before .if3 .taken)))
+    let args = c .before .before .before .before .before .before .before .before .before .before .before .before .args in
+    c .unchanged3 .ensures
+    ∙ enable-refused (args .t) (args .s) (byPrefix 65 64 (args .s) (counted (args .t))) Unused _ (asks-for-unused (c .before .before .before)) (c .before .if3 .taken) (prefix-first 65 64 (args .s) (counted (args .t)))
 
 returns-4 : tie.Need-returns-4
-unfolding enableChange slotRules
 returns-4 c =
-    let args = c .before .before .before .before .before .before .before .before .before .before .before .before .args in
-    c .unchanged4 .ensures ∙ sym (change-refused (args .t) (refusal (rules (counted (args .t)) (enable (args .s)))) _ 6 (lit< tt) (passed (c .before .before .before .before .before .before .before .before .before .before) ∙ rw (ground (c .before .before .before .before .before .before .before .before), c .before .before .before .before .before .before .before .if2 .left, prefixes (c .before .before .before .before .before), c .before .before .before .before .if3 .left, free-one (c .before .before .before), not-true (c .before .before .before .find3 .result .any) (c .before .if4 .taken))))
-
-returns-5 : tie.Need-returns-5
-unfolding enableChange slotRules
-returns-5 c =
-    let args = c .before .before .before .before .before .before .before .before .before .before .before .before .before .before .args in
-    let f = c .before .before .before .before .before .find3 in
-    let one = free-one (c .before .before .before .before .before) ∙ not-false _ (c .before .before .before .if4 .left) in
-    let k = place unused (counted (args .t)) in
-    let index : f .result .link .index ≡ indexAt k = ap (λ (x : Found). x .link .index) (f .ensures) ∙ rw one in
-    let at : f .result .place ≡ k = ap (λ (x : Found). x .place) (f .ensures) in
-    rw (c .with-slot .ensures, index, at)
-    (sym (change-done (args .t) (refusal (rules (counted (args .t)) (enable (args .s)))) _ (passed (c .before .before .before .before .before .before .before .before .before .before .before .before) ∙ rw (ground (c .before .before .before .before .before .before .before .before .before .before), c .before .before .before .before .before .before .before .before .before .if2 .left, prefixes (c .before .before .before .before .before .before .before), c .before .before .before .before .before .before .if3 .left, one))))
+    let u = c .before .before .before .before .before in
+    let args = u .before .before .before .before .before .before .before .before .before .args in
+    let asked = asks-for-unused u in
+    let found = c .before .before .find3 in
+    c .of-slot .ensures
+    ∙ enable-decided (args .t) (args .s) _ (changed 65 64 (args .s) (counted (args .t)) (chosen (args .t) dgvlIndex) (u .unused .result) (found .result) _ asked
+    (answers (args .t) (byPrefix 65 64 (args .s) (counted (args .t))) Unused (u .unused .result) (found .result) asked (found .ensures))
+    (c .before .change .ensures))
 
 pub enable-spec : {M : Type 1} → statement M
 enable-spec =
@@ -78,12 +71,13 @@ enable-spec =
     returns
     (λ c κs. tt)
     (λ c κs. tt)
+    (λ c κs. tt)
     returns-2
+    (λ c κs. tt)
     (λ c κs. tt)
     (λ c κs. tt)
     returns-3
     (λ c κs. tt)
     (λ c κs. tt)
-    returns-4
     (λ c κs. tt)
-    returns-5)
+    returns-4)
