@@ -6,14 +6,10 @@ use links::PerhapsLink;
 use links::Settings;
 use links::Slot;
 use links::Table;
-use search::Found;
-use search::inquiry::Inquiry;
 use table_calls::SlotChange;
 use table_calls::enabling;
 ghost use mathlib.Core.Path.{_≡_};
 ghost use Rattle.links.specs.Slots.{counted, slotAt};
-ghost use Rattle.search.specs.Search.{passes};
-ghost use Rattle.value_slots.specs.Search.{found};
 ghost use Rattle.value_table.specs.Changes.{unchangedBy, ofSlot, enableChange, disableChange, ownChange};
 
 // The number and the link of the reply, and what the table holds behind the call: its own MID, and one slot by its place. What does

@@ -6,7 +6,7 @@ use mathlib.Core.Logic.{_≢_}
 use mathlib.Core.List.{List}
 use lib.Dec.{lit<}
 use Rattle.replies.specs.Rules.{refusal}
-use Rattle.replies.proofs.Laws.Refusals.{Numbered, numbered-append, done-exactly, refusal-more, refusal-next}
+use Rattle.replies.proofs.Laws.Refusals.{Numbered, numbered-append}
 use Rattle.links.specs.declared.PerhapsLink.the-variants.{Nothing}
 use Rattle.links.specs.declared.Settings.{Settings}
 use Rattle.links.specs.declared.Slot.{Slot}
@@ -62,12 +62,3 @@ pub start-done : (most : ℕ) (memory : List Slot) (v : StartValues) → refusal
     → start most memory v ≡ record { number = 0; link = Nothing; table = fresh memory v }
 unfolding start
 start-done most memory v e = ap (λ (m : ℕ). begin m memory v) e
-
--- an enable: first the settings decide, then the enabled links
-pub by-settings : (l : List Slot) (s : Settings) (n : ℕ) → 0 < n → refusal (settingsRules s) ≡ n → refusal (rules l (enable s)) ≡ n
-unfolding rules
-by-settings l s n h e = refusal-more (settingsRules s) (slotRules l s) n h e
-
-pub by-slots : (l : List Slot) (s : Settings) → refusal (settingsRules s) ≡ 0 → refusal (rules l (enable s)) ≡ refusal (slotRules l s)
-unfolding rules
-by-slots l s e = refusal-next (settingsRules s) (slotRules l s) (done-exactly (settingsRules s) (settings-numbered s) .0 e)
