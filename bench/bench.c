@@ -1,26 +1,13 @@
-// The benchmark: the proved layer and the C version replay the same day files, alternately, in one run. Of each the fastest of
-// several rounds counts. The cost of one kind of record is that of a day with many of them less that of the day without them; the
-// two days take turns too, so that a slow spell of the machine falls on both.
-//
-// With COUNT_COPIES the same rows count copies of the table (copies.c), with COUNT_INSTRUCTIONS instructions (instructions.c). What is
-// counted is the same each time, so that few records and one round do.
+// Days: the proved layer and the C version replay the same day files. The cost of one kind of record is that of a day with many of
+// them less that of the day without them.
 #include "day.h"
-
-#if defined COUNT_COPIES || defined COUNT_INSTRUCTIONS
-#define COUNT
-#endif
+#include "measure.h"
 
 int printf(const char *format, ...);
 void *malloc(usize n);
 
-#ifdef COUNT
-enum { MANY = 20, LARGEST = 4000000 };
-#else
-enum { ROUNDS = 101, MANY = 500, LARGEST = 4000000 };
-#endif
+enum { LARGEST = 4000000 };
 static const u64 NO_STOP = 1000;
-
-struct cost { double c, proved; };
 static int wrong;
 
 // Both sides must store as many lines, the same numbers in them, and leave the same buffer behind. All of the numbers and of the
@@ -42,75 +29,26 @@ static bool fits(const struct day *d) {
     return c_whole_day(d->bytes, d->length, out, ROOM, lines, NUMBERS) < NUMBERS / 4;
 }
 
-// What each of the days costs. Both sides replay a day before it counts, so that it is known to be the same work.
-#ifdef COUNT
-static void costs_of(const struct day *d, int days, struct cost *cost) {
-    for (int k = 0; k < days; k++) {
-        if (!alike(&d[k], ROOM, NUMBERS) || !fits(&d[k])) wrong++;
-        cost[k].c = (double)count_of(c_whole_day, &d[k]);
-        cost[k].proved = (double)count_of(gn6_whole_day, &d[k]);
-    }
-}
-#else
-struct timespec { long seconds, nanoseconds; };
-int clock_gettime(int clock, struct timespec *t);
-#define MONOTONIC 1
-
-static double now(void) {
-    struct timespec t;
-    clock_gettime(MONOTONIC, &t);
-    return (double)t.seconds * 1e9 + (double)t.nanoseconds;
-}
-
-static double time_of(side *replay, const struct day *d, int times) {
+static void replay_all(side *replay, const struct day *d, usize times) {
     static u8 out[ROOM];
     static u64 lines[NUMBERS];
-    double before = now();
-    for (int i = 0; i < times; i++) replay(d->bytes, d->length, out, ROOM, lines, NUMBERS);
-    return (now() - before) / times;
+    for (usize i = 0; i < times; i++) replay(d->bytes, d->length, out, ROOM, lines, NUMBERS);
 }
 
-static void keep_the_faster(struct cost *best, const struct day *d, int times) {
-    double c = time_of(c_whole_day, d, times);
-    double proved = time_of(gn6_whole_day, d, times);
-    if (c < best->c) best->c = c;
-    if (proved < best->proved) best->proved = proved;
+static void by_c(void *day, usize times) { replay_all(c_whole_day, day, times); }
+
+static void by_proved(void *day, usize times) { replay_all(gn6_whole_day, day, times); }
+
+// What a replay of the day is; both sides have replayed it before it counts, so that it is known to be the same work.
+static struct work replay_of(struct day *d) {
+    if (!alike(d, ROOM, NUMBERS) || !fits(d)) wrong++;
+    return (struct work){ by_c, by_proved, d };
 }
 
-// Nanoseconds, in each round as many times as make a millisecond.
-static void costs_of(const struct day *d, int days, struct cost *cost) {
-    int times[2];
-    for (int k = 0; k < days; k++) {
-        if (!alike(&d[k], ROOM, NUMBERS) || !fits(&d[k])) wrong++;
-        times[k] = (int)(1e6 / (time_of(c_whole_day, &d[k], 1) + 1)) + 1;
-        cost[k].c = cost[k].proved = 1e18;
-    }
-    for (int i = 0; i < ROUNDS; i++)
-        for (int k = 0; k < days; k++) keep_the_faster(&cost[k], &d[k], times[k]);
-}
-#endif
-
-// The head of the rows, and a row. Most rows have no copies on the C side, so that there is no ratio of them.
-#ifdef COUNT_COPIES
-static void print_head(void) { printf("%-58s %9s %9s\n", "copies of the table for one record", "C", "proved"); }
-
-static void print_row(const char *name, struct cost x) { printf("%-58s %9.0f %9.0f\n", name, x.c, x.proved); }
-#else
-#ifdef COUNT_INSTRUCTIONS
-#define UNIT "one record, in instructions"
-#else
-#define UNIT "one record, in nanoseconds"
-#endif
-static void print_head(void) { printf("%-58s %9s %9s %7s\n", UNIT, "C", "proved", "ratio"); }
-
-static void print_row(const char *name, struct cost x) {
-    printf("%-58s %9.1f %9.1f %7.2f\n", name, x.c, x.proved, x.proved / x.c);
-}
-#endif
-
-static struct cost cost_of(const struct day *d) {
+static struct cost cost_of(struct day *d) {
+    struct work w = replay_of(d);
     struct cost x;
-    costs_of(d, 1, &x);
+    costs_of(&w, 1, &x);
     return x;
 }
 
@@ -122,7 +60,7 @@ static struct day new_day(u64 first, u64 stops) {
 }
 
 // What is appended to a day many times over: a record, or a few that belong together.
-enum work {
+enum kind {
     AREA, OTHERWISE, PREFIX, SOURCE, TSB, REFUSED, SHORT, VERSION, LENGTH_FIELD,
     UNICAST, OLD_UNICAST, MULTICAST, GROUP_TVL, NO_HOP, GROUP_HOP, GIVEN, GIVEN_LOOPBACK,
     FIXED, AGAIN, OWN_MID, DGVL_AREA, RETIRED, IN_AND_OUT
@@ -136,7 +74,7 @@ static const u8 internet[16] = { 0x20, 0x01, 0x0d, 0xb8, [15] = 1 };
 static const u8 loopback[16] = { [15] = 1 };
 static const u8 unspecified[16];
 
-static void put_work(struct day *d, enum work w, u64 stop, usize length) {
+static void put_work(struct day *d, enum kind w, u64 stop, usize length) {
     static u8 p[1280];
     make_packet(p, length, w == SOURCE ? stop : NO_STOP, w == PREFIX || w == OLD_UNICAST ? stop : NO_STOP);
     if (w == REFUSED) p[8] = 0xff;
@@ -166,12 +104,13 @@ static void put_work(struct day *d, enum work w, u64 stop, usize length) {
 }
 
 // The cost of one piece of work on a table with some stops enabled.
-static struct cost one(enum work w, u64 stops, u64 stop, usize length) {
+static struct cost one(enum kind w, u64 stops, u64 stop, usize length) {
     u64 first = stop < ROW ? 0 : ROW;
-    struct day without_and_with[2] = { new_day(first, stops), new_day(first, stops) };
+    struct day without = new_day(first, stops), with = new_day(first, stops);
     struct cost cost[2];
-    for (int i = 0; i < MANY; i++) put_work(&without_and_with[1], w, stop, length);
-    costs_of(without_and_with, 2, cost);
+    for (int i = 0; i < MANY; i++) put_work(&with, w, stop, length);
+    struct work works[2] = { replay_of(&without), replay_of(&with) };
+    costs_of(works, 2, cost);
     struct cost x = { (cost[1].c - cost[0].c) / MANY, (cost[1].proved - cost[0].proved) / MANY };
     return x;
 }
@@ -248,7 +187,7 @@ static void print_growth(void) {
 static void compare_damaged_days(int count) {
     u64 seed = 1;
     struct day d = new_day(0, 5);
-    for (int w = AREA; w <= IN_AND_OUT; w++) put_work(&d, (enum work)w, (u64)w % 5, 40 + (usize)w);
+    for (int w = AREA; w <= IN_AND_OUT; w++) put_work(&d, (enum kind)w, (u64)w % 5, 40 + (usize)w);
     struct day e = { malloc(LARGEST), d.length };
     for (int i = 0; i < count; i++) {
         memcpy(e.bytes, d.bytes, d.length);
@@ -264,7 +203,7 @@ static void compare_damaged_days(int count) {
 
 int main(void) {
     compare_damaged_days(20000);
-    print_head();
+    print_head("one record");
     print_table_calls();
     print_indications();
     print_requests_and_reading();

@@ -1,7 +1,7 @@
-// Counts the copies of a table that each kind of record makes: the C library's memcpy and memmove are replaced by ones that count
-// the calls for 2 KiB or more. A table is longer than that, and nothing else that is copied is as long. memset is replaced with
-// them and counts nothing: to fill a table is no copy.
-#include "day.h"
+// Counts the copies of a table that a task makes: the C library's memcpy and memmove are replaced by ones that count the calls for
+// 2 KiB or more. A table is longer than that, and nothing else that is copied is as long. memset is replaced with them and counts
+// nothing: to fill a table is no copy.
+#include "measure.h"
 
 static u64 copies;
 
@@ -23,10 +23,8 @@ void *memset(void *to, int value, usize n) {
     return to;
 }
 
-u64 count_of(side *replay, const struct day *d) {
-    static u8 out[ROOM];
-    static u64 lines[NUMBERS];
+u64 count_of(task *t, void *what) {
     copies = 0;
-    replay(d->bytes, d->length, out, ROOM, lines, NUMBERS);
+    t(what, 1);
     return copies;
 }

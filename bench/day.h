@@ -1,18 +1,6 @@
-// What the files of the benchmark have in common: plain types (the kit has a C compiler and no C headers), the two sides that
-// are compared, and the maker of day files.
-typedef unsigned char u8;
-typedef unsigned short u16;
-typedef unsigned int u32;
-typedef unsigned long u64;
-typedef int i32;
-typedef unsigned long usize;
-#define bool _Bool
-#define true 1
-#define false 0
-
-void *memcpy(void *to, const void *from, usize n);
-int memcmp(const void *a, const void *b, usize n);
-void *memset(void *to, int value, usize n);
+// Days: the two sides that replay them, and the maker of day files.
+#pragma once
+#include "plain.h"
 
 // Replays a day; every indication is lent `out`. Each line of the listing is stored in `lines` as four numbers: the reply; 1 if
 // the line has a link, else 0; the link's index, or 0 where there is none; the length. It stops where `lines` has no room for four
@@ -33,9 +21,6 @@ enum { GIVEN_STOP = 1 };
 
 // A day file as it is made (make.c).
 struct day { u8 *bytes; usize length; };
-
-// Of one replay: the copies of the table (copies.c), or the instructions (instructions.c).
-u64 count_of(side *replay, const struct day *d);
 
 void put(struct day *d, u64 number);
 void put_start(struct day *d, u64 max);

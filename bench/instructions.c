@@ -1,7 +1,7 @@
-// Counts the instructions of a replay, those of the C library with them. The trap flag of x86-64 has the processor trap behind each
+// Counts the instructions of a task, those of the C library with them. The trap flag of x86-64 has the processor trap behind each
 // instruction, and each trap is a signal that is counted. An emulator does the same, so that the count depends on no machine but
 // for the C library, which copies by other vectors on other processors.
-#include "day.h"
+#include "measure.h"
 
 void *signal(int number, void (*handler)(int));
 enum { SIGTRAP = 5, TRAP_FLAG = 0x100 };
@@ -13,24 +13,19 @@ static void step(int number) {
     steps++;
 }
 
-static u64 steps_of(side *volatile replay, const struct day *d) {
-    static u8 out[ROOM];
-    static u64 lines[NUMBERS];
+static u64 steps_of(task *volatile t, void *what) {
     u64 flags = __builtin_ia32_readeflags_u64();
     steps = 0;
     __builtin_ia32_writeeflags_u64(flags | TRAP_FLAG);
-    replay(d->bytes, d->length, out, ROOM, lines, NUMBERS);
+    t(what, 1);
     __builtin_ia32_writeeflags_u64(flags);
     return steps;
 }
 
-static usize nothing(const u8 *input, usize length, u8 *out, usize room, u64 *lines, usize numbers) {
-    (void)input, (void)length, (void)out, (void)room, (void)lines, (void)numbers;
-    return 0;
-}
+static void nothing(void *what, usize times) { (void)what, (void)times; }
 
-// Less what it takes to call a side and to end the trapping.
-u64 count_of(side *replay, const struct day *d) {
+// Less what it takes to call a task and to end the trapping.
+u64 count_of(task *t, void *what) {
     signal(SIGTRAP, step);
-    return steps_of(replay, d) - steps_of(nothing, d);
+    return steps_of(t, what) - steps_of(nothing, what);
 }
