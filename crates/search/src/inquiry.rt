@@ -19,6 +19,7 @@ pub struct Inquiry {
 pub fn asking(number: u8, count: usize, wanted: Wanted, otherwise: Chosen) -> Inquiry
     ensures { λ r. ⌜ r ≡ asking number count wanted otherwise ⌝ }
 {
+    // from its numbers: a whole copy would copy its padding too, and wait for what was just stored beside that
     let index = otherwise.index;
     let link = Chosen {
         index: index,
