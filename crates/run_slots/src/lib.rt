@@ -1,8 +1,11 @@
 // The records of a table that lie in a lent run: look for one, read one, store one, clear the first of them. Who holds the run lends
 // it, and nothing of it is copied but the record that is asked for. None of the four asks anything of its caller.
+use area::Area;
 use links::Chosen;
 use links::LinkIndex;
+use links::Settings;
 use links::Slot;
+use prefix::Prefix;
 use search::Found;
 use search::Wanted;
 ghost use mathlib.Core.Path.{_≡_};
@@ -81,12 +84,44 @@ pub fn record_at(run: &[Slot], place: usize) -> Slot
     links::blank_slot()
 }
 
+// The same slot, from its numbers: a whole copy would copy its padding too, and wait for what was just stored beside that.
+fn by_numbers(x: Slot) -> Slot
+    ensures { λ r. ⌜ r ≡ x ⌝ }
+{
+    let s = x.settings;
+    let a = s.area;
+    let interface = s.interface;
+    let p = s.prefix;
+    let area = Area {
+        shape: a.shape,
+        latitude: a.latitude,
+        longitude: a.longitude,
+        a: a.a,
+        b: a.b,
+        angle: a.angle,
+    };
+    let prefix = Prefix {
+        len: p.len,
+        high: p.high,
+        low: p.low,
+    };
+    let settings = Settings {
+        area: area,
+        interface: interface,
+        prefix: prefix,
+    };
+    Slot {
+        enabled: x.enabled,
+        settings: settings,
+    }
+}
+
 // One record is stored; past the end nothing is.
 pub fn store(run: &mut [Slot], place: usize, slot: Slot)
     ensures { λ _. ⌜ now (run .exit) ≡ set (now (run .entry)) place slot ⌝ }
 {
     if place < run.len() {
-        run[place] = slot;
+        run[place] = by_numbers(slot);
     }
 }
 
