@@ -45,6 +45,7 @@ fn found_at(place: usize, x: Slot) -> Found
 fn found_none(place: usize, otherwise: Chosen) -> Found
     ensures { λ r. ⌜ r ≡ foundNone place otherwise ⌝ }
 {
+    // from its numbers, as in `by_numbers`
     let index = otherwise.index;
     let link = Chosen {
         index: index,
