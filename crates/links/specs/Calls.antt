@@ -17,7 +17,7 @@ use Rattle.links.specs.declared.Settings.{Settings}
 use Rattle.links.specs.declared.Slot.{Slot}
 use Rattle.links.specs.declared.StartValues.{StartValues}
 use Rattle.links.specs.declared.Table.{Table}
-use Rattle.links.specs.Settings.{midOk, interfaceOk, retired, settingsRules, sameGround, overlaps}
+use Rattle.links.specs.Settings.{midOk, interfaceOk, retired, settingsRules, sameGround, overlaps, overlapsItself, stored}
 use Rattle.links.specs.Slots.{firstStop, isFixed, indexAt, placeOf, free, valueSlots, inUse, counted, slotAt, any, place, unused, with}
 
 pub data TableCall : Type 0 where
@@ -30,11 +30,11 @@ abbrev pub goodDynamic : PerhapsArea → Bool
 goodDynamic (Set a) = goodArea a
 goodDynamic Unset = true
 
--- enable-refusals: those that the enabled links decide
+-- enable-refusals: those that the enabled links decide, and 5 within the call
 unfoldable pub slotRules : List Slot → Settings → List Rule
 slotRules l s =
     4 if any (with (λ r. sameGround r s)) l
-    then 5 if any (with (λ r. overlaps r s)) l
+    then 5 if (any (with (λ r. overlaps r s)) l || overlapsItself s)
     then 6 if not (any unused l)
     then []
 
@@ -87,7 +87,7 @@ linkAfter l (setArea a) = Nothing
 linkAfter l (setOwn m) = Nothing
 
 unfoldable pub tableAfter : Table → TableCall → Table
-tableAfter t (enable s) = withSlot t (place unused (counted t)) (inUse s)
+tableAfter t (enable s) = withSlot t (place unused (counted t)) (inUse (stored s))
 tableAfter t (disable i) = withSlot t (placeOf i) free
 tableAfter t (setArea a) = withArea t a
 tableAfter t (setOwn m) = withOwn t m

@@ -6,6 +6,9 @@ use mathlib.Core.Bool.{true}
 use mathlib.Core.List.{List}
 use lib.ListN.{length, getD, drop}
 use Rattle.replies.specs.Rules.{Rule, Exact}
+use Rattle.prefix.specs.Prefix.{noPrefix}
+use Rattle.prefixes.specs.declared.Prefixes.{Prefixes}
+use Rattle.prefixes.specs.Prefixes.{place, listed}
 use Rattle.links.specs.declared.Head.{Head}
 use Rattle.links.specs.declared.LinkIndex.{LinkIndex}
 use Rattle.links.specs.declared.PerhapsArea.{PerhapsArea}
@@ -17,6 +20,7 @@ use Rattle.links.specs.declared.Settings.{Settings}
 use Rattle.links.specs.declared.Slot.{Slot}
 use Rattle.links.specs.declared.StartValues.{StartValues}
 use Rattle.links.specs.declared.Table.{Table}
+use Rattle.links.specs.Settings.{stored}
 use Rattle.links.specs.Slots.{free, inUse, counted}
 use Rattle.links.specs.Calls.{TableCall, enable, disable, setArea, setOwn, rules, reply, startValues, start}
 use Rattle.links.specs.Reached.{Reached}
@@ -82,13 +86,19 @@ pub record DifferAt (k : ℕ) (t u : Table) : Type 0 where
   pub size : length (t .slots) ≡ length (u .slots)
   pub rest : drop (t .max - 1) (t .slots) ≡ drop (t .max - 1) (u .slots)
 
+-- prefix-kept: the same prefixes in the order given, and nothing past the count
+pub record Keeps (given there : Prefixes) : Type 0 where
+  pub listed : listed there ≡ listed given
+  pub blank : (k : ℕ) → there .count ≤ k → place there k ≡ noPrefix
+
 -- an enable that answers 0 adds exactly its link, at the lowest unused index
 pub record Adds (t : Table) (s : Settings) (k : ℕ) : Type 0 where
   pub link : reply t (enable s) .link ≡ Link (record { 0 = k + 2 })
   pub within : k + 2 ≤ t .max
   pub lower : (j : ℕ) → j < k → getD (counted t) j free .enabled ≡ true
   pub unused : getD (counted t) k free ≡ free
-  pub there : getD (counted (reply t (enable s) .table)) k free ≡ inUse s
+  pub there : getD (counted (reply t (enable s) .table)) k free ≡ inUse (stored s)
+  pub keeps : Keeps (s .prefixes) (stored s .prefixes)
   pub alone : DifferAt k t (reply t (enable s) .table)
 
 -- a disable that answers 0 removes exactly its link

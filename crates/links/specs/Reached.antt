@@ -11,7 +11,7 @@ use Rattle.links.specs.declared.Settings.{Settings}
 use Rattle.links.specs.declared.Slot.{Slot}
 use Rattle.links.specs.declared.StartValues.{StartValues}
 use Rattle.links.specs.declared.Table.{Table}
-use Rattle.links.specs.Settings.{interfaceOk, retired, settingsRules, sameGround, overlaps}
+use Rattle.links.specs.Settings.{interfaceOk, retired, settingsRules, sameGround, overlaps, overlapsItself, stored}
 use Rattle.links.specs.Slots.{Has, free, valueSlots, counted, enabledCount}
 use Rattle.links.specs.Index.{enabledAt, interfaceAt}
 use Rattle.links.specs.Calls.{startValues, fresh, goodDynamic, TableCall, reply}
@@ -39,10 +39,13 @@ pub record Sound (most : ℕ) (memory : List Slot) (t : Table) : Type 0 where
   pub tvlKept : retired (t .tvl) ≡ false
   pub dgvlKept : retired (t .dgvl) ≡ false
   pub area : goodDynamic (t .area) ≡ true
-  -- link-apart: enabled links are good, with pairwise different areas and no overlapping prefixes
+  -- link-apart: enabled links are good, with pairwise different areas and no overlapping prefixes, on two links or on one
   pub good : (k : ℕ) (s : Settings) → Has (counted t) k s → refusal (settingsRules s) ≡ 0
   pub areas : Apart sameGround (counted t)
   pub prefixes : Apart overlaps (counted t)
+  pub within : (k : ℕ) (s : Settings) → Has (counted t) k s → overlapsItself s ≡ false
+  -- prefix-kept: past their counts nothing stands
+  pub tidy : (k : ℕ) (s : Settings) → Has (counted t) k s → stored s ≡ s
   -- link-most: there is a slot for each index up to the maximum, so at most maximum - 1 links are enabled
   pub room : length (counted t) ≡ t .max - 1
   pub few : enabledCount (counted t) ≤ t .max - 1

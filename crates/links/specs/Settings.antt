@@ -8,7 +8,7 @@ use lib.Dec.{leb, ltb, eqb}
 use Rattle.replies.specs.Rules.{Rule, _if_, _then_}
 use Rattle.area.specs.Area.{goodArea, sameArea}
 use Rattle.area.specs.Ground.{Good, Chain}
-use Rattle.prefix.specs.Prefix.{holds, overlap, goodPrefix}
+use Rattle.prefixes.specs.Prefixes.{tooMany, goodPrefixes, holdsAny, overlapping, overlapWithin, SameSet, kept}
 use Rattle.links.specs.declared.Interface.{Interface}
 use Rattle.links.specs.declared.Settings.{Settings}
 
@@ -24,7 +24,7 @@ interfaceOk f = leb 1 (f .kind) && leb (f .kind) 3 && leb (f .flag) 1
 abbrev pub retired : Interface → Bool
 retired f = eqb (f .kind) 2
 
--- enable-refusals: those that the settings alone decide: their values, then area and prefix
+-- enable-refusals: those that the settings alone decide before the table is asked: their values, then area and prefixes
 unfoldable pub settingsValues : Settings → List Rule
 settingsValues s =
     1 if not (interfaceOk (s .interface))
@@ -34,7 +34,8 @@ settingsValues s =
 unfoldable pub groundRules : Settings → List Rule
 groundRules s =
     2 if not (goodArea (s .area))
-    then 3 if not (goodPrefix (s .prefix))
+    then 29 if tooMany (s .prefixes)
+    then 3 if not (goodPrefixes (s .prefixes))
     then []
 
 unfoldable pub settingsRules : Settings → List Rule
@@ -43,19 +44,27 @@ settingsRules s = settingsValues s ++ groundRules s
 unfoldable pub sameGround : Settings → Settings → Bool
 sameGround r s = sameArea (r .area) (s .area)
 
+-- link-apart: a prefix of one overlaps a prefix of the other; two prefixes of one overlap
 unfoldable pub overlaps : Settings → Settings → Bool
-overlaps r s = overlap (r .prefix) (s .prefix)
+overlaps r s = overlapping (r .prefixes) (s .prefixes)
 
--- the link's prefix holds the address
+unfoldable pub overlapsItself : Settings → Bool
+overlapsItself s = overlapWithin (s .prefixes)
+
+-- one of the link's prefixes holds the address
 unfoldable pub reaches : Settings → List ℕ → Bool
-reaches s address = holds (s .prefix) address
+reaches s address = holdsAny (s .prefixes) address
+
+-- prefix-kept: as the table keeps them
+abbrev pub stored : Settings → Settings
+stored s = record { area = s .area; interface = s .interface; prefixes = kept (s .prefixes) }
 
 -- settings-equal
 pub record Same (r s : Settings) : Type 0 where
   pub area : sameArea (r .area) (s .area) ≡ true
-  pub prefix : r .prefix ≡ s .prefix
+  pub prefixes : SameSet (r .prefixes) (s .prefixes)
   pub interface : r .interface ≡ s .interface
 
--- and what it comes to: a chain of changes joins the areas, and prefix, kind and flag are the same
+-- and what it comes to: a chain of changes joins the areas, the sets of prefixes are the same, and so are kind and flag
 unfoldable pub EqualSettings : Type 0
-EqualSettings = (r s : Settings) → Good (r .area) → Good (s .area) → Same r s ↔ (Chain (r .area) (s .area) × (r .prefix ≡ s .prefix) × (r .interface ≡ s .interface))
+EqualSettings = (r s : Settings) → Good (r .area) → Good (s .area) → Same r s ↔ (Chain (r .area) (s .area) × SameSet (r .prefixes) (s .prefixes) × (r .interface ≡ s .interface))

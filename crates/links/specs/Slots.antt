@@ -6,7 +6,7 @@ use mathlib.Core.List.{List, [], _∷_}
 use lib.Dec.{ltb}
 use lib.IntN.{pos}
 use lib.ListN.{take, getD, replicate}
-use Rattle.prefix.specs.Prefix.{noPrefix}
+use Rattle.prefixes.specs.Prefixes.{noPrefixes}
 use Rattle.links.specs.declared.LinkIndex.{LinkIndex}
 use Rattle.links.specs.declared.Settings.{Settings}
 use Rattle.links.specs.declared.Slot.{Slot}
@@ -35,7 +35,7 @@ placeOf i = i .0 - firstStop .0
 abbrev pub blank : Settings
 blank = record {
   area = record { shape = 0; latitude = pos 0; longitude = pos 0; a = 0; b = 0; angle = 0 };
-  prefix = noPrefix;
+  prefixes = noPrefixes;
   interface = record { kind = 0; flag = 0 };
 }
 

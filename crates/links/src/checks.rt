@@ -84,14 +84,17 @@ pub fn settings_values_refusal(s: Settings) -> u8
     refused_by_values(!interface_ok(f), retired(f))
 }
 
-// The number by which area and prefix refuse an enable: 2, 3 in this order, or 0.
+// The number by which area and prefixes refuse an enable: 2, 29, 3 in this order, or 0.
 pub fn ground_refusal(s: Settings) -> u8
     ensures { λ r. ⌜ r ≡ refusal (groundRules s) ⌝ }
 {
     if !area::good(s.area) {
         return replies::AREA_NOT_GOOD;
     }
-    if !prefix::good(s.prefix) {
+    if prefixes::too_many(s.prefixes) {
+        return replies::TOO_MANY_PREFIXES;
+    }
+    if !prefixes::good(s.prefixes) {
         return replies::PREFIX_NOT_GOOD;
     }
     replies::DONE

@@ -5,7 +5,7 @@ pub mod checks;
 pub mod index;
 
 use area::Area;
-use prefix::Prefix;
+use prefixes::Prefixes;
 ghost use mathlib.Core.Path.{_≡_};
 ghost use Rattle.links.specs.Slots.{free, valueSlots};
 ghost use Rattle.links.specs.Calls.{fresh, plainStart};
@@ -42,12 +42,11 @@ pub struct Interface {
     pub flag: u8,
 }
 
-// What a stop link is enabled with. The prefix stands last: the interface fills the room that its words leave before them, and a
-// slot takes 56 bytes, not 64.
+// What a stop link is enabled with. The prefixes stand last: the interface fills the room that their words leave before them.
 pub struct Settings {
     pub area: Area,
     pub interface: Interface,
-    pub prefix: Prefix,
+    pub prefixes: Prefixes,
 }
 
 // The record of one stop index: the first slot is that of the first stop index.
@@ -124,11 +123,11 @@ pub fn blank_slot() -> Slot
         b: 0,
         angle: 0,
     };
-    let prefix = prefix::none();
+    let prefixes = prefixes::none();
     let settings = Settings {
         area: area,
         interface: Interface { kind: 0, flag: 0 },
-        prefix: prefix,
+        prefixes: prefixes,
     };
     Slot {
         enabled: false,

@@ -1,5 +1,5 @@
-// What a record asks of the run, one question after the other: an enable three, an indication two, and every other call none; and
-// the record of the run that a disable and a request look at.
+// What a record asks of the run, one question after the other: an enable for its ground, its prefixes and an unused record, an
+// indication twice for a link, and every other call nothing; and the record of the run that a disable and a request look at.
 use crate::BoxHead;
 use dayfile::records::Call;
 use dayfile::records::CallCarrying;
@@ -15,10 +15,11 @@ use search::Wanted;
 use search::inquiry;
 use search::inquiry::Inquiry;
 use table_calls::enabling;
+use table_calls::enabling::PrefixInquiry;
 ghost use mathlib.Core.Path.{_≡_};
 ghost use Rattle.dayfile.specs.Asked.{asked};
 ghost use Rattle.replay.specs.Replay.{misplaced};
-ghost use Rattle.record_calls.specs.Turns.{noneAsked, keptFor, firstOf, secondOf, thirdOf, placeOf};
+ghost use Rattle.record_calls.specs.Turns.{noneAsked, keptFor, firstOf, overlapOf, secondOf, placeOf};
 
 fn none_asked(number: u8) -> Inquiry
     ensures { λ r. ⌜ r ≡ noneAsked number ⌝ }
@@ -52,7 +53,7 @@ pub fn first(b: BoxHead, records: usize, input: &[u8], r: Record) -> Inquiry
         Call::Start(_) => none_asked(replies::DONE),
         Call::OnTable(on_table) => match on_table {
             CallOnTable::Enable(h) => {
-                enabling::ground(head.max, records, boxes::settings(h, c.prefix))
+                enabling::ground(head.max, records, boxes::settings(h, c.prefixes))
             }
             CallOnTable::Disable(_) => none_asked(replies::DONE),
             CallOnTable::DgvlArea(_) => none_asked(replies::DONE),
@@ -68,17 +69,46 @@ pub fn first(b: BoxHead, records: usize, input: &[u8], r: Record) -> Inquiry
     }
 }
 
-pub fn second(before: Inquiry, found: Found, input: &[u8], r: Record) -> Inquiry
-    ensures { λ i. ⌜ i ≡ secondOf before found (asked (r .call) (r .carried) (now (input .entry))) ⌝ }
+// Among how many records the prefixes that the record carries are asked for; of no other call but an enable.
+pub fn overlap(before: Inquiry, found: Found, input: &[u8], r: Record) -> PrefixInquiry
+    ensures { λ i. ⌜ i ≡ overlapOf before found (asked (r .call) (r .carried) (now (input .entry))) ⌝ }
 {
     let call = r.call;
     let c = r.carried;
+    let none = PrefixInquiry {
+        number: before.number,
+        count: 0,
+    };
+    match call {
+        Call::Start(_) => none,
+        Call::OnTable(on_table) => match on_table {
+            CallOnTable::Enable(h) => {
+                enabling::overlap(before, found, boxes::settings(h, c.prefixes))
+            }
+            CallOnTable::Disable(_) => none,
+            CallOnTable::DgvlArea(_) => none,
+            CallOnTable::OwnMid(_) => none,
+        },
+        Call::Carrying(_) => none,
+        Call::Broken => none,
+    }
+}
+
+pub fn second(
+    before: Inquiry,
+    found: Found,
+    prefixes: PrefixInquiry,
+    overlapping: bool,
+    input: &[u8],
+    r: Record,
+) -> Inquiry
+    ensures { λ i. ⌜ i ≡ secondOf before found prefixes overlapping (asked (r .call) (r .carried) (now (input .entry))) ⌝ }
+{
+    let call = r.call;
     match call {
         Call::Start(_) => kept(before, found),
         Call::OnTable(on_table) => match on_table {
-            CallOnTable::Enable(h) => {
-                enabling::overlap(before, found, boxes::settings(h, c.prefix))
-            }
+            CallOnTable::Enable(_) => enabling::unused(prefixes, overlapping),
             CallOnTable::Disable(_) => kept(before, found),
             CallOnTable::DgvlArea(_) => kept(before, found),
             CallOnTable::OwnMid(_) => kept(before, found),
@@ -87,26 +117,6 @@ pub fn second(before: Inquiry, found: Found, input: &[u8], r: Record) -> Inquiry
             CallCarrying::Indication(h) => {
                 choosing::second(before, found, h, replay::packet_of(input, r))
             }
-            CallCarrying::Request(_) => kept(before, found),
-        },
-        Call::Broken => kept(before, found),
-    }
-}
-
-pub fn third(before: Inquiry, found: Found, input: &[u8], r: Record) -> Inquiry
-    ensures { λ i. ⌜ i ≡ thirdOf before found (asked (r .call) (r .carried) (now (input .entry))) ⌝ }
-{
-    let call = r.call;
-    match call {
-        Call::Start(_) => kept(before, found),
-        Call::OnTable(on_table) => match on_table {
-            CallOnTable::Enable(_) => enabling::unused(before, found),
-            CallOnTable::Disable(_) => kept(before, found),
-            CallOnTable::DgvlArea(_) => kept(before, found),
-            CallOnTable::OwnMid(_) => kept(before, found),
-        },
-        Call::Carrying(carrying) => match carrying {
-            CallCarrying::Indication(_) => kept(before, found),
             CallCarrying::Request(_) => kept(before, found),
         },
         Call::Broken => kept(before, found),

@@ -177,7 +177,7 @@ fn in_turn(
         Call::Start(v) => begins(b, records, r.next, v),
         Call::OnTable(on_table) => match on_table {
             CallOnTable::Enable(h) => {
-                let s = boxes::settings(h, c.prefix);
+                let s = boxes::settings(h, c.prefixes);
                 slot_altered(b, r.next, enabling::change(before, found, records, s))
             }
             CallOnTable::Disable(index) => {

@@ -39,4 +39,6 @@ pub const LENGTH_FIELD_WRONG: u8 = 22;
 
 pub const RUN_TOO_SHORT: u8 = 23;
 
+pub const TOO_MANY_PREFIXES: u8 = 29;
+
 pub const KIND_RETIRED: u8 = 30;

@@ -30,7 +30,7 @@ pub fn enable(run: &mut [Slot], head: Head, s: Settings) -> HeadReply
     let ground = enabling::ground(head.max, records, s);
     let same = run_slots::find(&*run, ground.count, ground.wanted, ground.otherwise);
     let overlap = enabling::overlap(ground, same, s);
-    let overlapping = run_slots::find(&*run, overlap.count, overlap.wanted, overlap.otherwise);
+    let overlapping = run_slots::overlapping(&*run, overlap.count, s.prefixes);
     let unused = enabling::unused(overlap, overlapping);
     let lowest = run_slots::find(&*run, unused.count, unused.wanted, unused.otherwise);
     let change = enabling::change(unused, lowest, records, s);

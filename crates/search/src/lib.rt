@@ -7,10 +7,10 @@ use links::Chosen;
 use links::Slot;
 use prefix::Prefix;
 ghost use mathlib.Core.Path.{_≡_};
-ghost use Rattle.search.specs.Search.{asked, fits};
+ghost use Rattle.search.specs.Search.{asked, fits, mayFit, sortOf, areaOf, prefixOf, question};
 
-// Which slot is looked for, with what the question asks for. What holds an address is what overlaps the prefix of that address
-// alone.
+// Which slot is looked for, with what the question asks for. What holds an address is what has a prefix that overlaps the prefix of
+// that address alone.
 pub enum Wanted {
     Unused,
     SameGround(Area),
@@ -39,15 +39,85 @@ pub fn as_asked(wanted: Wanted) -> Wanted
     }
 }
 
-// Whether a slot passes the question as it is asked: an area is compared as a normal form.
-pub fn is_wanted(x: Slot, asked: Wanted) -> bool
-    ensures { λ r. ⌜ r ≡ fits asked x ⌝ }
+// A question by its sort, its area and its prefix. A loop is told the sort as a number: where that is a constant, the compiler makes
+// a loop of its own for it.
+pub const UNUSED: u8 = 0;
+
+pub const SAME_GROUND: u8 = 1;
+
+pub const OVERLAPPING: u8 = 2;
+
+pub fn sort_of(asked: Wanted) -> u8
+    ensures { λ r. ⌜ r ≡ sortOf asked ⌝ }
+{
+    match asked {
+        Wanted::Unused => UNUSED,
+        Wanted::SameGround(_) => SAME_GROUND,
+        Wanted::Overlapping(_) => OVERLAPPING,
+    }
+}
+
+fn no_area() -> Area
+    ensures { λ r. ⌜ r ≡ areaOf Wanted.Unused ⌝ }
+{
+    Area {
+        shape: 0,
+        latitude: 0,
+        longitude: 0,
+        a: 0,
+        b: 0,
+        angle: 0,
+    }
+}
+
+pub fn area_of(asked: Wanted) -> Area
+    ensures { λ r. ⌜ r ≡ areaOf asked ⌝ }
+{
+    match asked {
+        Wanted::Unused => no_area(),
+        Wanted::SameGround(a) => a,
+        Wanted::Overlapping(_) => no_area(),
+    }
+}
+
+pub fn prefix_of(asked: Wanted) -> Prefix
+    ensures { λ r. ⌜ r ≡ prefixOf asked ⌝ }
+{
+    match asked {
+        Wanted::Unused => prefix::none(),
+        Wanted::SameGround(_) => prefix::none(),
+        Wanted::Overlapping(p) => p,
+    }
+}
+
+// Whether a slot may pass the question, by a look at its first numbers. A loop asks this of every slot, and the question itself of
+// those few that may.
+pub fn may_be_wanted(x: Slot, sort: u8, n: Area, p: Prefix) -> bool
+    ensures { λ r. ⌜ r ≡ mayFit (question sort n p) x ⌝ }
 {
     let r = x.settings;
     let on = x.enabled;
-    match asked {
-        Wanted::Unused => !on,
-        Wanted::SameGround(n) => on && area::has_normal(r.area, n),
-        Wanted::Overlapping(p) => on && prefix::overlaps(r.prefix, p),
+    if sort == OVERLAPPING {
+        return on && prefixes::may_meet(r.prefixes, p);
     }
+    if sort == SAME_GROUND {
+        let a = r.area;
+        return on & (a.latitude == n.latitude);
+    }
+    !on
+}
+
+// Whether a slot passes the question as it is asked: an area is compared as a normal form.
+pub fn is_wanted(x: Slot, sort: u8, n: Area, p: Prefix) -> bool
+    ensures { λ r. ⌜ r ≡ fits (question sort n p) x ⌝ }
+{
+    let r = x.settings;
+    let on = x.enabled;
+    if sort == OVERLAPPING {
+        return on && prefixes::meets(r.prefixes, p);
+    }
+    if sort == SAME_GROUND {
+        return on && area::has_normal(r.area, n);
+    }
+    !on
 }

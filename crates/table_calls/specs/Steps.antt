@@ -1,7 +1,7 @@
 -- The calls on the table step by step: what each asks of the slots, and what it makes of the answer. What that comes to is told by
 -- `reply` of links, and over a run by `replyOver`; the laws say so.
 use Prim.Native.Nat.{ℕ, _-_}
-use mathlib.Core.Bool.{cond, not, _||_}
+use mathlib.Core.Bool.{Bool, cond, not, _||_}
 use mathlib.Core.List.{List, [], _++_}
 use lib.Dec.{eqb, ltb, leb}
 use Rattle.replies.specs.Rules.{Rule, _if_, _then_, refusal}
@@ -16,15 +16,16 @@ use Rattle.links.specs.declared.PerhapsLink.the-variants.{Link, Nothing}
 use Rattle.links.specs.declared.Settings.{Settings}
 use Rattle.links.specs.declared.Slot.{Slot}
 use Rattle.links.specs.declared.StartValues.{StartValues}
-use Rattle.links.specs.Settings.{midOk, settingsValues, groundRules}
+use Rattle.links.specs.Settings.{midOk, settingsValues, groundRules, overlapsItself, stored}
 use Rattle.links.specs.Slots.{dgvlIndex, isFixed, placeOf, free, inUse}
 use Rattle.links.specs.Calls.{goodDynamic, startValues}
 use Rattle.links.specs.Run.{freshHead}
 use Rattle.search.specs.declared.Found.{Found}
-use Rattle.search.specs.declared.Wanted.the-variants.{Unused, SameGround, Overlapping}
+use Rattle.search.specs.declared.Wanted.the-variants.{Unused, SameGround}
 use Rattle.search.specs.declared.inquiry.Inquiry.{Inquiry}
 use Rattle.search.specs.Inquiry.{asking, after}
 use Rattle.table_calls.specs.declared.SlotChange.{SlotChange}
+use Rattle.table_calls.specs.declared.enabling.PrefixInquiry.{PrefixInquiry}
 use Rattle.table_calls.specs.declared.heads.StartOrder.{StartOrder}
 
 -- where the slot of a link stands; behind the last one for a fixed link and for an index that does not count
@@ -48,16 +49,19 @@ noLink = record { index = dgvlIndex; kind = 0 }
 abbrev pub groundAsked : ℕ → ℕ → Settings → Inquiry
 groundAsked max records s = asking (refusal (enableRules max records s)) (max - 1) (SameGround (s .area)) noLink
 
-abbrev pub overlapAsked : Inquiry → Found → Settings → Inquiry
-overlapAsked i same s = asking (after (i .number) 4 (same .any)) (i .count) (Overlapping (s .prefix)) (i .otherwise)
+-- 4, and 5 within the call; a call that is refused asks among none
+abbrev pub overlapAsked : Inquiry → Found → Settings → PrefixInquiry
+overlapAsked i same s =
+    let n = after (after (i .number) 4 (same .any)) 5 (overlapsItself s) in
+    record { number = n; count = cond (eqb n 0) (i .count) 0 }
 
-abbrev pub unusedAsked : Inquiry → Found → Inquiry
-unusedAsked i overlapping = asking (after (i .number) 5 (overlapping .any)) (i .count) Unused (i .otherwise)
+abbrev pub unusedAsked : PrefixInquiry → Bool → Inquiry
+unusedAsked i overlapping = asking (after (i .number) 5 overlapping) (i .count) Unused noLink
 
 abbrev pub enabled : Inquiry → Found → ℕ → Settings → SlotChange
 enabled i lowest records s =
     let n = after (i .number) 6 (not (lowest .any)) in
-    cond (eqb n 0) (record { number = 0; link = Link (lowest .link .index); place = lowest .place; slot = inUse s }) (unchangedBy n records)
+    cond (eqb n 0) (record { number = 0; link = Link (lowest .link .index); place = lowest .place; slot = inUse (stored s) }) (unchangedBy n records)
 
 -- Disable
 

@@ -1,4 +1,4 @@
-// An enable asks three questions: is the area in use (4), does the prefix overlap one (5), is there a slot that is unused (6)?
+// An enable asks three questions: is the area in use (4), do its prefixes overlap one (5), is there a slot that is unused (6)?
 use crate::SlotChange;
 use links::Chosen;
 use links::LinkIndex;
@@ -13,7 +13,8 @@ ghost use mathlib.Core.Path.{_≡_};
 ghost use mathlib.Core.Bool.{cond};
 ghost use lib.Dec.{eqb};
 ghost use Rattle.replies.specs.Rules.{refusal};
-ghost use Rattle.table_calls.specs.Steps.{enableRules, groundAsked, overlapAsked, unusedAsked, enabled};
+ghost use Rattle.links.specs.Settings.{stored};
+ghost use Rattle.table_calls.specs.Steps.{enableRules, noLink, groundAsked, overlapAsked, unusedAsked, enabled};
 
 // The number so far, and the next one where that is 0.
 fn first(number: u8, next: u8) -> u8
@@ -25,7 +26,7 @@ fn first(number: u8, next: u8) -> u8
     next
 }
 
-// The number by which the settings and the length of the run refuse it: 1, 30, 23, 2, 3 in this order, or 0.
+// The number by which the settings and the length of the run refuse it: 1, 30, 23, 2, 29, 3 in this order, or 0.
 fn refused_before(max: usize, records: usize, s: Settings) -> u8
     ensures { λ r. ⌜ r ≡ refusal (enableRules max records s) ⌝ }
 {
@@ -36,43 +37,78 @@ fn refused_before(max: usize, records: usize, s: Settings) -> u8
     first(first(values, run), ground)
 }
 
+// Where no slot is found nothing is made of the link.
+fn no_link() -> Chosen
+    ensures { λ r. ⌜ r ≡ noLink ⌝ }
+{
+    Chosen {
+        index: LinkIndex::DGVL,
+        kind: 0,
+    }
+}
+
 pub fn ground(max: usize, records: usize, s: Settings) -> Inquiry
     ensures { λ r. ⌜ r ≡ groundAsked max records s ⌝ }
 {
     let area = s.area;
-    let none = Chosen {
-        index: LinkIndex::DGVL,
-        kind: 0,
-    };
     inquiry::asking(
         refused_before(max, records, s),
         inquiry::slot_count(max),
         Wanted::SameGround(area),
-        none,
+        no_link(),
     )
 }
 
-pub fn overlap(before: Inquiry, same: Found, s: Settings) -> Inquiry
+// Among the first `count` slots the prefixes are asked for, where no number refuses the enable so far. There may be several: the
+// question is not one for a prefix alone.
+pub struct PrefixInquiry {
+    pub number: u8,
+    pub count: usize,
+}
+
+pub fn overlap(before: Inquiry, same: Found, s: Settings) -> PrefixInquiry
     ensures { λ r. ⌜ r ≡ overlapAsked before same s ⌝ }
 {
-    let prefix = s.prefix;
-    inquiry::asking(
-        inquiry::after(before.number, replies::AREA_IN_USE, same.any),
-        before.count,
-        Wanted::Overlapping(prefix),
-        before.otherwise,
-    )
+    let in_use = inquiry::after(before.number, replies::AREA_IN_USE, same.any);
+    let number = inquiry::after(
+        in_use,
+        replies::PREFIX_OVERLAPS,
+        prefixes::overlap_within(s.prefixes),
+    );
+    if number != replies::DONE {
+        return PrefixInquiry {
+            number: number,
+            count: 0,
+        };
+    }
+    PrefixInquiry {
+        number: replies::DONE,
+        count: before.count,
+    }
 }
 
-pub fn unused(before: Inquiry, overlapping: Found) -> Inquiry
+pub fn unused(before: PrefixInquiry, overlapping: bool) -> Inquiry
     ensures { λ r. ⌜ r ≡ unusedAsked before overlapping ⌝ }
 {
     inquiry::asking(
-        inquiry::after(before.number, replies::PREFIX_OVERLAPS, overlapping.any),
+        inquiry::after(before.number, replies::PREFIX_OVERLAPS, overlapping),
         before.count,
         Wanted::Unused,
-        before.otherwise,
+        no_link(),
     )
+}
+
+// What the table keeps of the settings: places past the count are blank.
+fn stored(s: Settings) -> Settings
+    ensures { λ r. ⌜ r ≡ stored s ⌝ }
+{
+    let area = s.area;
+    let interface = s.interface;
+    Settings {
+        area: area,
+        interface: interface,
+        prefixes: prefixes::kept(s.prefixes),
+    }
 }
 
 // What it comes to, where the last answer is the lowest unused index.
@@ -87,7 +123,7 @@ pub fn change(before: Inquiry, lowest: Found, records: usize, s: Settings) -> Sl
     let index = link.index;
     let slot = Slot {
         enabled: true,
-        settings: s,
+        settings: stored(s),
     };
     SlotChange {
         number: replies::DONE,

@@ -6,11 +6,13 @@ use links::Chosen;
 use links::LinkIndex;
 use links::Slot;
 use links::Table;
+use prefixes::Prefixes;
 use search::Found;
 use search::Wanted;
 ghost use mathlib.Core.Path.{_≡_};
 ghost use Prim.Native.Nat.{_-_, _≤_, min};
-ghost use Rattle.links.specs.Slots.{indexAt, counted, slotAt};
+ghost use Rattle.links.specs.Slots.{indexAt, counted, slotAt, any, with};
+ghost use Rattle.prefixes.specs.Prefixes.{overlapping};
 ghost use Rattle.search.specs.Search.{passes};
 ghost use Rattle.value_slots.specs.Search.{found, slotPlace, placeIn, slotFrom};
 
@@ -51,11 +53,14 @@ pub fn find(t: Table, wanted: Wanted) -> Found
     ensures { λ r. ⌜ r ≡ found t (passes wanted) ⌝ }
 {
     let question = search::as_asked(wanted);
+    let sort = search::sort_of(question);
+    let area = search::area_of(question);
+    let prefix = search::prefix_of(question);
     let n = slot_count(t.max);
     let mut i: usize = 0;
     while i < n {
         let x = t.slots[i];
-        if search::is_wanted(x, question) {
+        if search::is_wanted(x, sort, area, prefix) {
             let r = x.settings;
             let interface = r.interface;
             let link = Chosen {
@@ -80,6 +85,23 @@ pub fn find(t: Table, wanted: Wanted) -> Found
         place: i,
         link: link,
     }
+}
+
+// Whether an enabled link has a prefix that overlaps one of these.
+pub fn overlapping(t: Table, s: Prefixes) -> bool
+    ensures { λ r. ⌜ r ≡ any (with (λ x. overlapping (x .prefixes) s)) (counted t) ⌝ }
+{
+    if s.count == 0 {
+        return false;
+    }
+    let first = find(t, Wanted::Overlapping(prefixes::at(s, 0)));
+    if first.any | (s.count == 1) {
+        return first.any;
+    }
+    let second = find(t, Wanted::Overlapping(prefixes::at(s, 1)));
+    let third = find(t, Wanted::Overlapping(prefixes::at(s, 2)));
+    let fourth = find(t, Wanted::Overlapping(prefixes::at(s, 3)));
+    second.any | third.any | fourth.any
 }
 
 // Where the slot of a link stands; the first place for a fixed link and past the last slot, which have none.

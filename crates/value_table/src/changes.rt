@@ -68,8 +68,7 @@ pub fn enable(t: Table, s: Settings) -> Change
     if overlap.number != replies::DONE {
         return unchanged(t, overlap.number);
     }
-    let wanted = overlap.wanted;
-    let overlapping = value_slots::find(t, wanted);
+    let overlapping = value_slots::overlapping(t, s.prefixes);
     let unused = enabling::unused(overlap, overlapping);
     if unused.number != replies::DONE {
         return unchanged(t, unused.number);

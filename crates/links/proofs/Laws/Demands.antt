@@ -10,6 +10,9 @@ use lib.Seq.{getD-set-same, getD-set-other, drop-set-lt}
 use borrow.Author.Tests.{ltb-true, ltb-false, not-true, not-false}
 use Rattle.replies.specs.Rules.{Rule, refusal, None, Exact}
 use Rattle.replies.proofs.Laws.Refusals.{Numbered, done-exactly, none-right, exact}
+use Rattle.prefixes.specs.declared.Prefixes.{Prefixes}
+use Rattle.prefixes.specs.Prefixes.{kept}
+use Rattle.prefixes.proofs.Laws.Lists.{listed-kept, kept-blank}
 use Rattle.links.specs.declared.Head.{Head}
 use Rattle.links.specs.declared.LinkIndex.{LinkIndex}
 use Rattle.links.specs.declared.PerhapsArea.{PerhapsArea}
@@ -20,12 +23,12 @@ use Rattle.links.specs.declared.Settings.{Settings}
 use Rattle.links.specs.declared.Slot.{Slot}
 use Rattle.links.specs.declared.StartValues.{StartValues}
 use Rattle.links.specs.declared.Table.{Table}
-use Rattle.links.specs.Settings.{settingsRules}
+use Rattle.links.specs.Settings.{settingsRules, stored}
 use Rattle.links.specs.Slots.{placeOf, free, inUse, counted, slotAt, any, place, unused}
 use Rattle.links.specs.Calls.{TableCall, enable, disable, setArea, setOwn, slotRules, rules, linkAfter, tableAfter, answer, reply, withSlot, withArea, withOwn, startValues, fresh, plainStart, begin, start}
 use Rattle.links.specs.Reached.{Sound}
 use Rattle.links.specs.Run.{over, freshHead, rulesOver, replyOver, startRulesOver, beginOver, startOver}
-use Rattle.links.specs.Demands.{Refuses, WithoutStops, RefusesStart, RefusesStartOver, TableDemand1, Starts, StartsOver, DifferAt, Adds, Removes, Sets, TableDemand2}
+use Rattle.links.specs.Demands.{Refuses, WithoutStops, RefusesStart, RefusesStartOver, TableDemand1, Starts, StartsOver, DifferAt, Keeps, Adds, Removes, Sets, TableDemand2}
 use Rattle.links.proofs.Laws.Search.{any-place, before-place, at-place}
 use Rattle.links.proofs.Laws.Counted.{enabled-below, slot-of-stop}
 use Rattle.links.proofs.Laws.Slots.{counted-with, cleared-blank, cleared-length, cleared-rest}
@@ -152,6 +155,9 @@ module _ (t : Table) (c : TableCall) (e : reply t c .number ≡ 0) where
   link-is : reply t c .link ≡ linkAfter (counted t) c
   link-is = ap (λ (r : Reply). r .link) (done t c zero-given)
 
+keeps : (s : Prefixes) → Keeps s (kept s)
+keeps s = record { listed = listed-kept s; blank = kept-blank s }
+
 -- one slot is replaced
 module _ (t u : Table) (k : ℕ) (x : Slot) (e : u ≡ withSlot t k x) where
   run-is : counted u ≡ set (counted t) k x
@@ -187,8 +193,9 @@ module _ (most : ℕ) (memory : List Slot) (t : Table) (h : Sound most memory t)
           within = omega (arith, h .room, h .least);
           lower = λ j b. not-false _ (before-place unused l j free b);
           unused = h .blank k (not-true _ (at-place unused l free below));
-          there = at-k t (reply t (enable s) .table) k (inUse s) now-is below;
-          alone = differ t (reply t (enable s) .table) k (inUse s) now-is below;
+          there = at-k t (reply t (enable s) .table) k (inUse (stored s)) now-is below;
+          keeps = keeps (s .prefixes);
+          alone = differ t (reply t (enable s) .table) k (inUse (stored s)) now-is below;
         },
       )
 

@@ -31,7 +31,7 @@ values-numbered s = (lit< tt, (lit< tt, tt))
 
 ground-numbered : (s : Settings) → Numbered (groundRules s)
 unfolding groundRules
-ground-numbered s = (lit< tt, (lit< tt, tt))
+ground-numbered s = (lit< tt, (lit< tt, (lit< tt, tt)))
 
 pub settings-numbered : (s : Settings) → Numbered (settingsRules s)
 unfolding settingsRules

@@ -18,11 +18,11 @@ use Rattle.links.specs.declared.Settings.{Settings}
 use Rattle.links.specs.declared.Slot.{Slot}
 use Rattle.links.specs.declared.StartValues.{StartValues}
 use Rattle.links.specs.declared.Table.{Table}
-use Rattle.links.specs.Settings.{midOk, interfaceOk, retired, settingsRules, sameGround, overlaps}
+use Rattle.links.specs.Settings.{midOk, interfaceOk, retired, settingsRules, sameGround, overlaps, overlapsItself, stored}
 use Rattle.links.specs.Slots.{placeOf, Has, free, valueSlots, inUse, counted, slotAt, any, place, unused, enabledCount}
 use Rattle.links.specs.Calls.{TableCall, enable, disable, setArea, setOwn, slotRules, rules, withSlot, withArea, withOwn, goodDynamic, startOk, startValues, cleared, fresh, plainStart, begin, start, startByValue, tableAfter, answer, reply}
 use Rattle.links.specs.Reached.{Reached, started, called, ByValue, Apart, Sound}
-use Rattle.links.proofs.Laws.Settings.{ground-sym, overlaps-sym}
+use Rattle.links.proofs.Laws.Settings.{ground-sym, overlaps-sym, rules-stored, overlaps-stored, itself-stored, stored-twice}
 use Rattle.links.proofs.Laws.Search.{any-place}
 use Rattle.links.proofs.Laws.Counted.{enabled-below, slot-of-stop}
 use Rattle.links.proofs.Laws.Slots.{free-has-none, any-none, counted-with, cleared-blank, cleared-length, cleared-rest, count-within}
@@ -58,21 +58,25 @@ module _ (most : ℕ) (memory : List Slot) where
         good = λ k s p. absurd (empty k s p);
         areas = λ j k r s p q m. absurd (empty j r p);
         prefixes = λ j k r s p q m. absurd (empty j r p);
+        within = λ k s p. absurd (empty k s p);
+        tidy = λ k s p. absurd (empty k s p);
         room = room;
         few = subst (λ (n : ℕ). enabledCount run ≤ n) room (count-within run);
         blank = λ k p. cleared-blank (max - 1) memory k;
         rest = cleared-rest (max - 1) memory;
       }
 
-  enable-sound : (t : Table) (s : Settings) → Sound most memory t → None (rules (counted t) (enable s)) → Sound most memory (withSlot t (place unused (counted t)) (inUse s))
+  enable-sound : (t : Table) (s : Settings) → Sound most memory t → None (rules (counted t) (enable s)) → Sound most memory (withSlot t (place unused (counted t)) (inUse (stored s)))
   unfolding rules slotRules
   enable-sound t s h n =
       let l = counted t in
       let k = place unused l in
-      let u = withSlot t k (inUse s) in
+      let kept = stored s in
+      let u = withSlot t k (inUse kept) in
       let slots = none-right (settingsRules s) (slotRules l s) n in
       let below : k < length l = ltb-true k (length l) (sym (any-place unused l) ∙ not-false (any unused l) (slots .1 .1 .0)) in
-      let now-is : counted u ≡ set l k (inUse s) = counted-with t k (inUse s) in
+      let now-is : counted u ≡ set l k (inUse kept) = counted-with t k (inUse kept) in
+      let apart = simp or-eq-false-eq-eq-false-and-eq-false at (slots .1 .0) in
       record {
         own = h .own;
         least = h .least;
@@ -82,20 +86,28 @@ module _ (most : ℕ) (memory : List Slot) where
         tvlKept = h .tvlKept;
         dgvlKept = h .dgvlKept;
         area = h .area;
-        good = λ j r p. go j r (filled l k s j r (subst (λ (m : List Slot). Has m j r) now-is p));
-        areas = subst (Apart sameGround) (sym now-is) (apart-filled l k s sameGround ground-sym (any-none (λ r. sameGround r s) l (slots .0)) (h .areas));
-        prefixes = subst (Apart overlaps) (sym now-is) (apart-filled l k s overlaps overlaps-sym (any-none (λ r. overlaps r s) l (slots .1 .0)) (h .prefixes));
-        room = room-with most memory t h k (inUse s);
-        few = few-with most memory t h k (inUse s);
-        blank = blank-with most memory t h k (inUse s) below (λ e. clash refl e);
-        rest = rest-with most memory t h k (inUse s) below;
+        good = λ j r p.
+            each (λ r. refusal (settingsRules r) ≡ 0) (rw (rules-stored s) (done-exactly (settingsRules s) (settings-numbered s) .1 (none-left (settingsRules s) (slotRules l s) n))) (h .good) now-is j r p;
+        areas = subst (Apart sameGround) (sym now-is) (apart-filled l k kept sameGround ground-sym (any-none (λ r. sameGround r s) l (slots .0)) (h .areas));
+        prefixes =
+            subst (Apart overlaps) (sym now-is)
+            (apart-filled l k kept overlaps overlaps-sym (λ j r p. overlaps-stored r s ∙ any-none (λ r. overlaps r s) l (apart .0) j r p) (h .prefixes));
+        within = each (λ r. overlapsItself r ≡ false) (itself-stored s ∙ apart .1) (h .within) now-is;
+        tidy = each (λ r. stored r ≡ r) (stored-twice s) (h .tidy) now-is;
+        room = room-with most memory t h k (inUse kept);
+        few = few-with most memory t h k (inUse kept);
+        blank = blank-with most memory t h k (inUse kept) below (λ e. clash refl e);
+        rest = rest-with most memory t h k (inUse kept) below;
       }
     where
-      go : (j : ℕ) (r : Settings) → ((j ≡ place unused (counted t)) × (s ≡ r)) ⊎ Has (counted t) j r → refusal (settingsRules r) ≡ 0
-      go j r (inl x) =
-          subst (λ (z : Settings). refusal (settingsRules z) ≡ 0) (x .1)
-          (done-exactly (settingsRules s) (settings-numbered s) .1 (none-left (settingsRules s) (slotRules (counted t) s) n))
-      go j r (inr y) = h .good j r y
+      -- what holds of the new link, and of each that was enabled before, holds of each that is enabled now
+      each : (A : Settings → Type 0) → A (stored s) → ((j : ℕ) (r : Settings) → Has (counted t) j r → A r)
+          → {now : List Slot} → now ≡ set (counted t) (place unused (counted t)) (inUse (stored s)) → (j : ℕ) (r : Settings) → Has now j r → A r
+      each A new old e j r p = go (filled (counted t) (place unused (counted t)) (stored s) j r (subst (λ (m : List Slot). Has m j r) e p))
+        where
+          go : ((j ≡ place unused (counted t)) × (stored s ≡ r)) ⊎ Has (counted t) j r → A r
+          go (inl x) = subst A (x .1) new
+          go (inr y) = old j r y
 
   disable-sound : (t : Table) (i : LinkIndex) → Sound most memory t → None (rules (counted t) (disable i)) → Sound most memory (withSlot t (placeOf i) free)
   unfolding rules
@@ -119,6 +131,8 @@ module _ (most : ℕ) (memory : List Slot) where
         good = λ j s p. h .good j s (back j s p);
         areas = λ j m r s p q. h .areas j m r s (back j r p) (back m s q);
         prefixes = λ j m r s p q. h .prefixes j m r s (back j r p) (back m s q);
+        within = λ j s p. h .within j s (back j s p);
+        tidy = λ j s p. h .tidy j s (back j s p);
         room = room-with most memory t h k free;
         few = few-with most memory t h k free;
         blank = blank-with most memory t h k free below (λ e. refl);
@@ -141,6 +155,8 @@ module _ (most : ℕ) (memory : List Slot) where
         good = h .good;
         areas = h .areas;
         prefixes = h .prefixes;
+        within = h .within;
+        tidy = h .tidy;
         room = h .room;
         few = h .few;
         blank = h .blank;
