@@ -72,7 +72,10 @@ fn place(s: Prefixes, k: usize) -> Prefix
 pub fn at(s: Prefixes, k: u8) -> Prefix
     ensures { λ r. ⌜ r ≡ listedAt s k ⌝ }
 {
-    if (s.count <= k) | (MOST <= k) {
+    if s.count <= k {
+        return prefix::none();
+    }
+    if MOST <= k {
         return prefix::none();
     }
     place(s, k as usize)

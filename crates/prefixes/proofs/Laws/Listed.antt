@@ -6,8 +6,8 @@ use lib.Dec.{eqb, ltb}
 use Rattle.prefix.specs.declared.Prefix.{Prefix}
 use Rattle.prefix.specs.Prefix.{noPrefix, overlap, goodPrefix}
 use Rattle.prefixes.specs.declared.Prefixes.{Prefixes}
-use Rattle.prefixes.specs.Prefixes.{place, places, listed, listedAt, anyOf, allOf, within, tooMany, goodPrefixes, meets, overlapping, overlapWithin, mayMeet, noPrefixes, ofFour, kept, single}
-use Rattle.prefixes.proofs.Laws.Count.{count, overlap-none, blanked, blanked-twice, any-blanked, first-tells}
+use Rattle.prefixes.specs.Prefixes.{place, listed, listedAt, anyOf, allOf, within, tooMany, goodPrefixes, meets, overlapping, overlapWithin, mayMeet, noPrefixes, ofFour, kept, single}
+use Rattle.prefixes.proofs.Laws.Count.{count, overlap-none, blanked, blanked-twice, any-first, any-blanked, first-tells}
 
 pub listed-kept : (s : Prefixes) → listed (kept s) ≡ listed s
 unfolding listed
@@ -52,6 +52,20 @@ meets-none s = go (listed s)
 pub meets-at : (r s : Prefixes) → overlapping r s ≡ (meets r (listedAt s 0) || (meets r (listedAt s 1) || (meets r (listedAt s 2) || meets r (listedAt s 3))))
 unfolding overlapping listed
 meets-at r s = any-blanked (place s 0) (place s 1) (place s 2) (place s 3) (meets r) (meets-none r) (count (s .count))
+
+-- the tests that are left from a place on: whether it is listed, and overlaps
+abbrev pub from3 : Prefixes → Prefix → Bool
+from3 s p = ltb 3 (s .count) && overlap (place s 3) p
+
+abbrev pub from2 : Prefixes → Prefix → Bool
+from2 s p = ltb 2 (s .count) && (overlap (place s 2) p || from3 s p)
+
+abbrev pub from1 : Prefixes → Prefix → Bool
+from1 s p = ltb 1 (s .count) && (overlap (place s 1) p || from2 s p)
+
+pub meets-from : (s : Prefixes) (p : Prefix) → meets s p ≡ (ltb 0 (s .count) && (overlap (place s 0) p || from1 s p))
+unfolding meets listed
+meets-from s p = any-first (place s 0) (place s 1) (place s 2) (place s 3) (λ q. overlap q p) (count (s .count))
 
 pub may-meet : (s : Prefixes) (p : Prefix) → meets s p ≡ true → mayMeet s p ≡ true
 unfolding meets mayMeet listed

@@ -1,7 +1,7 @@
 -- The prefixes of a link as a set: what asks for one of them asks every member, and does not see their order.
 use Prim.Native.Nat.{ℕ}
 use mathlib.Core.Path.{_≡_, refl, sym, _∙_}
-use mathlib.Core.Logic.{_↔_, _⊎_, inl, inr}
+use mathlib.Core.Logic.{_↔_, inl, inr}
 use mathlib.Core.Bool.{Bool, true, false, _||_, or-true}
 use mathlib.Core.List.{List, [], _∷_}
 use Rattle.octets.proofs.Laws.Tests.{alike, clash}
