@@ -92,11 +92,11 @@ fn good_at(s: Prefixes, k: u8) -> bool
     requires { ⌜ k < 4 ⌝ }
     ensures { λ r. ⌜ r ≡ cond (ltb k (s .count)) (ltb 0 (place s k .len) && goodPrefix (place s k)) true ⌝ }
 {
-    if s.count <= k {
-        return true;
+    if k < s.count {
+        let p = place(s, k as usize);
+        return (0 < p.len) & prefix::good(p);
     }
-    let p = place(s, k as usize);
-    (0 < p.len) & prefix::good(p)
+    true
 }
 
 pub fn good(s: Prefixes) -> bool
