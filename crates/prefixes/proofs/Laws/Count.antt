@@ -1,12 +1,12 @@
 -- Four places and a count: what a list by the count comes to, by the tests of the count against each place.
 use Prim.Native.Nat.{ℕ, zero, suc}
 use native.Mathlib.Omega.{arith}
-use mathlib.Core.Path.{_≡_, refl, sym, _∙_}
+use mathlib.Core.Path.{_≡_, refl}
 use mathlib.Core.Bool.{Bool, true, false, cond, _&&_, _||_, and-false, and-true, and-assoc, or-false, or-assoc}
 use mathlib.Core.List.{List, [], _∷_}
-use lib.Dec.{ltb, eqb}
+use lib.Dec.{ltb}
 use lib.ListN.{take}
-use borrow.Author.Tests.{lt-ltb, ne-eqb}
+use borrow.Author.Tests.{lt-ltb}
 use Rattle.prefix.specs.declared.Prefix.{Prefix}
 use Rattle.prefix.specs.Prefix.{noPrefix, overlap}
 use Rattle.prefixes.specs.Prefixes.{anyOf, allOf, within, ofFour}
@@ -108,13 +108,3 @@ module _ (a b c d : Prefix) where
   within-first three = simp (overlap-none, or-false, or-assoc)
   within-first four = simp (or-false, or-assoc)
   within-first more = simp (or-false, or-assoc)
-
-  -- where more than one is listed, a look at the first tells nothing
-  pub first-tells : (q : Prefix → Bool) {n : ℕ} {i j k l : Bool} → Count n i j k l → anyOf q (first n) ≡ true → cond (eqb n 1) (q a) j ≡ true
-  unfolding anyOf
-  first-tells q none e = e
-  first-tells q one e = sym (or-false (q a)) ∙ e
-  first-tells q two e = refl
-  first-tells q three e = refl
-  first-tells q four e = refl
-  first-tells q (more {n}) e = rw (ne-eqb (suc (suc (suc (suc (suc n))))) 1 (λ f. omega (arith, f)))

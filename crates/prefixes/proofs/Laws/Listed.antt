@@ -1,13 +1,17 @@
 -- What is listed, kept, met: by the places of a link and its count.
-use mathlib.Core.Path.{_≡_, refl, ap}
-use mathlib.Core.Bool.{Bool, true, false, cond, _&&_, _||_}
+use Prim.Native.Nat.{_<_}
+use native.Mathlib.Omega.{arith}
+use mathlib.Core.Path.{_≡_, refl, sym, _∙_, ap}
+use mathlib.Core.Logic.{_⊎_, inl, inr, ⊎-elim}
+use mathlib.Core.Bool.{Bool, true, false, cond, _&&_, _||_, or-false, and-eq-true-iff}
 use mathlib.Core.List.{List, [], _∷_}
 use lib.Dec.{eqb, ltb}
+use borrow.Author.Tests.{lt-ltb, le-ltb, ltb-true, eqb-true, eqb-false}
 use Rattle.prefix.specs.declared.Prefix.{Prefix}
 use Rattle.prefix.specs.Prefix.{noPrefix, overlap, goodPrefix}
 use Rattle.prefixes.specs.declared.Prefixes.{Prefixes}
 use Rattle.prefixes.specs.Prefixes.{place, listed, listedAt, anyOf, allOf, within, tooMany, goodPrefixes, meets, overlapping, overlapWithin, mayMeet, noPrefixes, ofFour, kept, single}
-use Rattle.prefixes.proofs.Laws.Count.{count, overlap-none, blanked, blanked-twice, any-first, any-blanked, first-tells}
+use Rattle.prefixes.proofs.Laws.Count.{count, overlap-none, blanked, blanked-twice, any-first, any-blanked}
 
 pub listed-kept : (s : Prefixes) → listed (kept s) ≡ listed s
 unfolding listed
@@ -67,9 +71,25 @@ pub meets-from : (s : Prefixes) (p : Prefix) → meets s p ≡ (ltb 0 (s .count)
 unfolding meets listed
 meets-from s p = any-first (place s 0) (place s 1) (place s 2) (place s 3) (λ q. overlap q p) (count (s .count))
 
+some-listed : (s : Prefixes) (p : Prefix) → meets s p ≡ true → 0 < s .count
+some-listed s p e = ltb-true 0 (s .count) ((simp and-eq-true-iff at (sym (meets-from s p) ∙ e)) .0)
+
+one-listed : (s : Prefixes) (p : Prefix) → s .count ≡ 1 → meets s p ≡ overlap (place s 0) p
+one-listed s p one = rw (meets-from s p, lt-ltb 0 (s .count) (omega arith), le-ltb 1 (s .count) (omega arith)) (or-false (overlap (place s 0) p))
+
+either-way : (t : Bool) → (t ≡ true) ⊎ (t ≡ false)
+either-way true = inl refl
+either-way false = inr refl
+
+-- a link that is passed over has nothing that overlaps
 pub may-meet : (s : Prefixes) (p : Prefix) → meets s p ≡ true → mayMeet s p ≡ true
-unfolding meets mayMeet listed
-may-meet s p = first-tells (place s 0) (place s 1) (place s 2) (place s 3) (λ q. overlap q p) (count (s .count))
+unfolding mayMeet
+may-meet s p e =
+    let some = some-listed s p e in
+    ⊎-elim
+    (λ one. rw one (sym (one-listed s p (eqb-true (s .count) 1 one)) ∙ e))
+    (λ other. rw other (lt-ltb _ (s .count) (omega (arith, eqb-false (s .count) 1 other))))
+    (either-way (eqb (s .count) 1))
 
 pub single-listed : (p : Prefix) → listed (single p) ≡ cond (eqb (p .len) 0) [] (p ∷ [])
 unfolding listed
