@@ -2,7 +2,10 @@
 // table takes 104 bytes so, and 136 with an array of prefixes.
 use prefix::Prefix;
 ghost use mathlib.Core.Path.{_≡_};
+ghost use mathlib.Core.Bool.{true, cond, _&&_};
 ghost use Prim.Native.Nat.{_<_};
+ghost use lib.Dec.{ltb};
+ghost use Rattle.prefix.specs.Prefix.{goodPrefix};
 ghost use Rattle.prefixes.specs.Prefixes.{place, tooMany, goodPrefixes, meets, mayMeet, overlapWithin, noPrefixes, listedAt, ofFour, kept, single};
 
 // How many prefixes a stop link can have.
@@ -69,7 +72,10 @@ fn place(s: Prefixes, k: usize) -> Prefix
 pub fn at(s: Prefixes, k: u8) -> Prefix
     ensures { λ r. ⌜ r ≡ listedAt s k ⌝ }
 {
-    if (s.count <= k) | (MOST <= k) {
+    if s.count <= k {
+        return prefix::none();
+    }
+    if MOST <= k {
         return prefix::none();
     }
     place(s, k as usize)
@@ -81,35 +87,22 @@ pub fn too_many(s: Prefixes) -> bool
     MOST < s.count
 }
 
-fn listed_good(p: Prefix) -> bool {
-    (0 < p.len) & prefix::good(p)
+// Whether what is listed at a place is good, and not none.
+fn good_at(s: Prefixes, k: u8) -> bool
+    requires { ⌜ k < 4 ⌝ }
+    ensures { λ r. ⌜ r ≡ cond (ltb k (s .count)) (ltb 0 (place s k .len) && goodPrefix (place s k)) true ⌝ }
+{
+    if k < s.count {
+        let p = place(s, k as usize);
+        return (0 < p.len) & prefix::good(p);
+    }
+    true
 }
 
 pub fn good(s: Prefixes) -> bool
     ensures { λ r. ⌜ r ≡ goodPrefixes s ⌝ }
 {
-    if s.count == 0 {
-        return true;
-    }
-    if !listed_good(place(s, 0)) {
-        return false;
-    }
-    if s.count == 1 {
-        return true;
-    }
-    if !listed_good(place(s, 1)) {
-        return false;
-    }
-    if s.count == 2 {
-        return true;
-    }
-    if !listed_good(place(s, 2)) {
-        return false;
-    }
-    if s.count == 3 {
-        return true;
-    }
-    listed_good(place(s, 3))
+    good_at(s, 0) & good_at(s, 1) & good_at(s, 2) & good_at(s, 3)
 }
 
 // Whether one of them overlaps a prefix.
