@@ -116,10 +116,11 @@ static bool same_head(const struct head *t, const struct proved_head *u) {
 }
 
 static bool same_slot(const struct slot *x, const struct slot *y) {
-    const struct prefix *p = &x->settings.prefix, *q = &y->settings.prefix;
+    const struct prefixes *p = &x->settings.prefixes, *q = &y->settings.prefixes;
     return x->enabled == y->enabled && same_area(&x->settings.area, &y->settings.area)
-        && same_interface(x->settings.interface, y->settings.interface) && p->length == q->length && p->high == q->high
-        && p->low == q->low;
+        && same_interface(x->settings.interface, y->settings.interface) && p->count == q->count
+        && memcmp(p->lengths, q->lengths, sizeof p->lengths) == 0 && memcmp(p->highs, q->highs, sizeof p->highs) == 0
+        && memcmp(p->lows, q->lows, sizeof p->lows) == 0;
 }
 
 static bool same_destination(const struct destination *d, const union proved_destination *e) {
@@ -217,7 +218,7 @@ static void compare(enum kind k, struct boxes *x, usize records) {
 static struct area area_of(u64 stop) { return (struct area){ 0, (i32)stop, 0, 500, 0, 0 }; }
 
 static struct settings settings_of(u64 stop) {
-    return (struct settings){ area_of(stop), { 1, 1 }, { 48, 0x20010db800000000 | stop << 16, 0 } };
+    return (struct settings){ area_of(stop), { 1, 1 }, { 1, { 48 }, { 0x20010db800000000 | stop << 16 }, { 0 } } };
 }
 
 // A table with as many records as count, all enabled.
@@ -511,13 +512,25 @@ static struct interface some_interface(void) {
 
 static u64 some_mid(void) { return ONE_OF(0, 1, 0x020000000003, 0xffffffffffff, 0x020000000004, 1UL << 48); }
 
-static struct settings some_settings(void) {
+static struct prefix some_prefix(void) {
     u8 length = (u8)ONE_OF(0, 16, 24, 24, 32, 32, 63, 64, 64, 65, 127, 128, 128, 129);
     u64 high = ONE_OF(0x2001000000000000, 0x2002000000000000, 0x2001010000000000, 0x2001020300000004, 0xfe80000000000000, 0xff00000000000000);
     u64 low = ONE_OF(0, 0, 1, 2, 0x8000000000000000);
     if (length < 64 && below(9)) high = length == 0 ? 0 : high >> (64 - length) << (64 - length);
     if (length < 128 && below(9)) low = length <= 64 ? 0 : low >> (128 - length) << (128 - length);
-    return (struct settings){ some_area(), some_interface(), { length, high, low } };
+    return (struct prefix){ length, high, low };
+}
+
+// Something stands in every place, also where the count does not reach.
+static struct settings some_settings(void) {
+    struct settings s = { some_area(), some_interface(), { .count = (u8)ONE_OF(1, 1, 1, 1, 2, 2, 2, 3, 3, 4, 0, 5, 255) } };
+    for (usize k = 0; k < 4; k++) {
+        struct prefix p = some_prefix();
+        s.prefixes.lengths[k] = p.length;
+        s.prefixes.highs[k] = p.high;
+        s.prefixes.lows[k] = p.low;
+    }
+    return s;
 }
 
 static const u8 *some_address(void) {
@@ -574,8 +587,8 @@ static void compare_calls_at_random(int count) {
     }
     for (int k = 0; k < KINDS; k++)
         for (int n = 0; n < 31; n++) pairs += seen[k][n];
-    if (pairs != 4 + 9 + 4 + 3 + 3 + 10 + 11 + 3) wrong++;
-    printf("%d calls over a run compared, with %d answers of 47\n", count, pairs);
+    if (pairs != 4 + 10 + 4 + 3 + 3 + 10 + 11 + 3) wrong++;
+    printf("%d calls over a run compared, with %d answers of 48\n", count, pairs);
 }
 
 int main(void) {

@@ -82,6 +82,63 @@ static bool prefix_good(const struct prefix *p) {
     return !overlaps(p, &link_local) && !overlaps(p, &multicast);
 }
 
+// ---- the prefixes of one stop
+
+enum { MOST_PREFIXES = 4 };
+
+static struct prefix prefix_at(const struct prefixes *s, usize k) { return (struct prefix){ s->lengths[k], s->highs[k], s->lows[k] }; }
+
+static bool prefixes_good(const struct prefixes *s) {
+    for (usize k = 0; k < s->count; k++) {
+        struct prefix p = prefix_at(s, k);
+        if (p.length == 0 || !prefix_good(&p)) return false;
+    }
+    return true;
+}
+
+static bool any_holds(const struct prefixes *s, const struct prefix *address) {
+    for (usize k = 0; k < s->count; k++) {
+        struct prefix p = prefix_at(s, k);
+        if (holds(&p, address)) return true;
+    }
+    return false;
+}
+
+// Whether a prefix of the first, from a place on, overlaps this one.
+static bool any_overlaps(const struct prefixes *s, usize from, const struct prefix *q) {
+    for (usize k = from; k < s->count; k++) {
+        struct prefix p = prefix_at(s, k);
+        if (overlaps(&p, q)) return true;
+    }
+    return false;
+}
+
+static bool two_overlap(const struct prefixes *s, const struct prefixes *given) {
+    for (usize k = 0; k < given->count; k++) {
+        struct prefix p = prefix_at(given, k);
+        if (any_overlaps(s, 0, &p)) return true;
+    }
+    return false;
+}
+
+static bool overlap_within(const struct prefixes *s) {
+    for (usize k = 0; k < s->count; k++) {
+        struct prefix p = prefix_at(s, k);
+        if (any_overlaps(s, k + 1, &p)) return true;
+    }
+    return false;
+}
+
+// A table keeps nothing in the places past the count.
+static void keep(struct prefixes *to, const struct prefixes *s) {
+    *to = (struct prefixes){ .count = s->count };
+    for (usize k = 0; k < s->count; k++) {
+        to->lengths[k] = s->lengths[k];
+        to->highs[k] = s->highs[k];
+        to->lows[k] = s->lows[k];
+    }
+}
+
 // ---- the table
 
 static bool too_short(usize max, struct run r) { return r.records < max - 1; }
@@ -100,10 +157,11 @@ static u8 enable(const struct head *t, struct run r, const struct settings *s, u
     if (retired(s->interface)) return 30;
     if (too_short(t->max, r)) return 23;
     if (!area_good(&s->area)) return 2;
-    if (!prefix_good(&s->prefix)) return 3;
+    if (s->prefixes.count > MOST_PREFIXES) return 29;
+    if (!prefixes_good(&s->prefixes)) return 3;
     struct area ground = area_normal(&s->area);
     usize stops = t->max - 1, unused = stops;
-    bool overlap = false;
+    bool overlap = overlap_within(&s->prefixes);
     for (usize k = 0; k < stops; k++) {
         const struct slot *x = &r.slots[k];
         if (!x->enabled) {
@@ -111,12 +169,14 @@ static u8 enable(const struct head *t, struct run r, const struct settings *s, u
             continue;
         }
         if (has_normal(&x->settings.area, &ground)) return 4;
-        if (overlaps(&x->settings.prefix, &s->prefix)) overlap = true;
+        if (two_overlap(&x->settings.prefixes, &s->prefixes)) overlap = true;
     }
     if (overlap) return 5;
     if (unused == stops) return 6;
     r.slots[unused].enabled = true;
-    r.slots[unused].settings = *s;
+    r.slots[unused].settings.area = s->area;
+    r.slots[unused].settings.interface = s->interface;
+    keep(&r.slots[unused].settings.prefixes, &s->prefixes);
     *link = unused + 2;
     return 0;
 }
@@ -204,7 +264,7 @@ static usize stop_with_area(const struct head *t, struct run r, const struct are
 static usize stop_that_holds(const struct head *t, struct run r, const u8 *bytes) {
     struct prefix address = address_at(bytes);
     for (usize k = 0; k < t->max - 1; k++)
-        if (r.slots[k].enabled && holds(&r.slots[k].settings.prefix, &address)) return k + 2;
+        if (r.slots[k].enabled && any_holds(&r.slots[k].settings.prefixes, &address)) return k + 2;
     return 1;
 }
 

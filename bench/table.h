@@ -5,7 +5,8 @@
 struct area { u8 shape; i32 latitude, longitude; u16 a, b, angle; };
 struct prefix { u8 length; u64 high, low; }; // the first eight bytes and the last eight: two compares instead of a loop
 struct interface { u8 kind, flag; };
-struct settings { struct area area; struct interface interface; struct prefix prefix; };
+struct prefixes { u8 count; u8 lengths[4]; u64 highs[4], lows[4]; }; // of one stop, told by sorts of numbers
+struct settings { struct area area; struct interface interface; struct prefixes prefixes; };
 struct slot { bool enabled; struct settings settings; };
 struct head { u64 own; usize max; struct interface tvl, dgvl; bool has_area; struct area area; };
 struct run { struct slot *slots; usize records; };

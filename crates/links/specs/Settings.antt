@@ -56,7 +56,7 @@ unfoldable pub reaches : Settings → List ℕ → Bool
 reaches s address = holdsAny (s .prefixes) address
 
 -- prefix-kept: as the table keeps them
-abbrev pub stored : Settings → Settings
+unfoldable pub stored : Settings → Settings
 stored s = record { area = s .area; interface = s .interface; prefixes = kept (s .prefixes) }
 
 -- settings-equal

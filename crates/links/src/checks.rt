@@ -84,18 +84,29 @@ pub fn settings_values_refusal(s: Settings) -> u8
     refused_by_values(!interface_ok(f), retired(f))
 }
 
+// 2 where the area is not good, then 29 where there are too many prefixes, then 3 where one is not good, or 0.
+fn refused_by_ground(area: bool, many: bool, prefix: bool) -> u8
+    ensures { λ r. ⌜ r ≡ refusal (2 if area then 29 if many then 3 if prefix then []) ⌝ }
+{
+    if area {
+        return replies::AREA_NOT_GOOD;
+    }
+    if many {
+        return replies::TOO_MANY_PREFIXES;
+    }
+    if prefix {
+        return replies::PREFIX_NOT_GOOD;
+    }
+    replies::DONE
+}
+
 // The number by which area and prefixes refuse an enable: 2, 29, 3 in this order, or 0.
 pub fn ground_refusal(s: Settings) -> u8
     ensures { λ r. ⌜ r ≡ refusal (groundRules s) ⌝ }
 {
-    if !area::good(s.area) {
-        return replies::AREA_NOT_GOOD;
-    }
-    if prefixes::too_many(s.prefixes) {
-        return replies::TOO_MANY_PREFIXES;
-    }
-    if !prefixes::good(s.prefixes) {
-        return replies::PREFIX_NOT_GOOD;
-    }
-    replies::DONE
+    refused_by_ground(
+        !area::good(s.area),
+        prefixes::too_many(s.prefixes),
+        !prefixes::good(s.prefixes),
+    )
 }

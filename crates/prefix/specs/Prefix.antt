@@ -1,6 +1,6 @@
 -- RULES, Prefix: what a prefix holds, which two overlap, and which are good.
 use Prim.Native.Nat.{ℕ, _+_, _/_, min}
-use mathlib.Core.Bool.{Bool, cond, not, _&&_, _||_}
+use mathlib.Core.Bool.{Bool, true, cond, not, _&&_, _||_}
 use mathlib.Core.List.{List, _∷_, _++_}
 use lib.ListN.{length, take, drop, replicate}
 use lib.Dec.{eqb, leb, ltb}
@@ -42,6 +42,10 @@ ofAddress address = cond (eqb (length address) 16) (ofBytes 128 address) noPrefi
 -- prefix-overlap: one holds the other, and neither is none
 unfoldable pub overlap : Prefix → Prefix → Bool
 overlap p q = ltb 0 (p .len) && ltb 0 (q .len) && (holdsPrefix p q || holdsPrefix q p)
+
+-- what a look at the first words tells: where the shorter has 1 to 64 bits whether they overlap, else nothing
+unfoldable pub mayOverlap : Prefix → Prefix → Bool
+mayOverlap p q = cond (eqb (min (p .len) (q .len)) 0 || ltb 64 (min (p .len) (q .len))) true (overlap p q)
 
 -- prefix-reserved: fe80::/10 and ff00::/8
 abbrev pub linkLocalPrefix : Prefix

@@ -5,7 +5,7 @@ ghost use Prim.Native.Nat.{_<_};
 ghost use lib.ListN.{take, drop};
 ghost use Rattle.octets.specs.Digits.{bits};
 ghost use Rattle.octets.specs.Runs.{same, allZero};
-ghost use Rattle.prefix.specs.Prefix.{noPrefix, wordBytes, bytesOf, ofBytes, ofAddress, holds, holdsPrefix, overlap, goodPrefix, bytesNeeded};
+ghost use Rattle.prefix.specs.Prefix.{noPrefix, wordBytes, bytesOf, ofBytes, ofAddress, holds, holdsPrefix, overlap, mayOverlap, goodPrefix, bytesNeeded};
 
 pub struct Prefix {
     pub len: u8,
@@ -163,6 +163,18 @@ pub fn overlaps(p: Prefix, q: Prefix) -> bool
     ensures { λ r. ⌜ r ≡ overlap p q ⌝ }
 {
     numbers_overlap(p.len, p.high, p.low, q.len, q.high, q.low)
+}
+
+// Whether two prefixes may overlap, by a look at their first words: where the shorter has 1 to 64 bits it is told, else not. A search
+// goes past most prefixes with it, and asks the rest.
+pub fn may_overlap(p: Prefix, q: Prefix) -> bool
+    ensures { λ r. ⌜ r ≡ mayOverlap p q ⌝ }
+{
+    let n = if p.len <= q.len { p.len } else { q.len };
+    if (n == 0) | (64 < n) {
+        return true;
+    }
+    same_first_bits(n, p.high, p.low, q.high, q.low)
 }
 
 pub fn good(p: Prefix) -> bool

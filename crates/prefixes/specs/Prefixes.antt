@@ -7,7 +7,7 @@ use mathlib.Core.List.{List, [], _∷_}
 use lib.Dec.{eqb, ltb}
 use lib.ListN.{take, getD}
 use Rattle.prefix.specs.declared.Prefix.{Prefix}
-use Rattle.prefix.specs.Prefix.{noPrefix, holds, overlap, goodPrefix}
+use Rattle.prefix.specs.Prefix.{noPrefix, holds, overlap, mayOverlap, goodPrefix}
 use Rattle.prefixes.specs.declared.Prefixes.{Prefixes}
 
 -- the prefix at a place, and the four places
@@ -90,6 +90,6 @@ kept s = ofFour (s .count) (listedAt s 0) (listedAt s 1) (listedAt s 2) (listedA
 abbrev pub single : Prefix → Prefixes
 single p = cond (eqb (p .len) 0) noPrefixes (ofFour 1 p noPrefix noPrefix noPrefix)
 
--- what a look at the first place tells: where there is at most one prefix, whether it overlaps this one; where there are more, nothing
+-- what a look at the first place tells: where there are more prefixes, nothing
 unfoldable pub mayMeet : Prefixes → Prefix → Bool
-mayMeet s p = cond (eqb (s .count) 1) (overlap (place s 0) p) (ltb 1 (s .count))
+mayMeet s p = ltb 1 (s .count) || mayOverlap (place s 0) p

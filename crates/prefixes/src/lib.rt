@@ -137,10 +137,7 @@ pub fn meets(s: Prefixes, p: Prefix) -> bool
 pub fn may_meet(s: Prefixes, p: Prefix) -> bool
     ensures { λ r. ⌜ r ≡ mayMeet s p ⌝ }
 {
-    if s.count == 1 {
-        return prefix::overlaps(place(s, 0), p);
-    }
-    1 < s.count
+    (1 < s.count) | prefix::may_overlap(place(s, 0), p)
 }
 
 // Whether one of them overlaps another.

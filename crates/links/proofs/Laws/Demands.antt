@@ -10,9 +10,7 @@ use lib.Seq.{getD-set-same, getD-set-other, drop-set-lt}
 use borrow.Author.Tests.{ltb-true, ltb-false, not-true, not-false}
 use Rattle.replies.specs.Rules.{Rule, refusal, None, Exact}
 use Rattle.replies.proofs.Laws.Refusals.{Numbered, done-exactly, none-right, exact}
-use Rattle.prefixes.specs.declared.Prefixes.{Prefixes}
-use Rattle.prefixes.specs.Prefixes.{kept}
-use Rattle.prefixes.proofs.Laws.Lists.{listed-kept, kept-blank}
+use Rattle.prefixes.proofs.Laws.Listed.{listed-kept, kept-blank}
 use Rattle.links.specs.declared.Head.{Head}
 use Rattle.links.specs.declared.LinkIndex.{LinkIndex}
 use Rattle.links.specs.declared.PerhapsArea.{PerhapsArea}
@@ -155,8 +153,9 @@ module _ (t : Table) (c : TableCall) (e : reply t c .number ≡ 0) where
   link-is : reply t c .link ≡ linkAfter (counted t) c
   link-is = ap (λ (r : Reply). r .link) (done t c zero-given)
 
-keeps : (s : Prefixes) → Keeps s (kept s)
-keeps s = record { listed = listed-kept s; blank = kept-blank s }
+keeps : (s : Settings) → Keeps (s .prefixes) (stored s .prefixes)
+unfolding stored
+keeps s = record { listed = listed-kept (s .prefixes); blank = kept-blank (s .prefixes) }
 
 -- one slot is replaced
 module _ (t u : Table) (k : ℕ) (x : Slot) (e : u ≡ withSlot t k x) where
@@ -194,7 +193,7 @@ module _ (most : ℕ) (memory : List Slot) (t : Table) (h : Sound most memory t)
           lower = λ j b. not-false _ (before-place unused l j free b);
           unused = h .blank k (not-true _ (at-place unused l free below));
           there = at-k t (reply t (enable s) .table) k (inUse (stored s)) now-is below;
-          keeps = keeps (s .prefixes);
+          keeps = keeps s;
           alone = differ t (reply t (enable s) .table) k (inUse (stored s)) now-is below;
         },
       )

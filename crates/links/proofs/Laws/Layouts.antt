@@ -21,6 +21,7 @@ use Rattle.links.specs.declared.Reply.{Reply}
 use Rattle.links.specs.declared.Slot.{Slot}
 use Rattle.links.specs.declared.StartValues.{StartValues}
 use Rattle.links.specs.declared.Table.{Table}
+use Rattle.links.specs.Settings.{stored}
 use Rattle.links.specs.Slots.{placeOf, free, valueSlots, inUse, counted, place, unused}
 use Rattle.links.specs.Calls.{TableCall, enable, disable, setArea, setOwn, rules, linkAfter, tableAfter, answer, reply, startValues, cleared, fresh, begin, start, withSlot}
 use Rattle.links.specs.Reached.{Reached, started, called}
@@ -101,7 +102,7 @@ module _ (t : Table) where
       → getD (answer n t c .table .slots) j free ≡ getD (t .slots) j free
   unfolding tableAfter linkAfter
   others zero (enable s) e j other =
-      getD-set-other (t .slots) (place unused (counted t)) j (inUse s) free (λ is. other (ap (λ (k : ℕ). Link (record { 0 = k + 2 })) (sym is)))
+      getD-set-other (t .slots) (place unused (counted t)) j (inUse (stored s)) free (λ is. other (ap (λ (k : ℕ). Link (record { 0 = k + 2 })) (sym is)))
   others zero (disable i) e j other =
       let stop = a-stop i e in
       getD-set-other (t .slots) (placeOf i) j free free (λ is. other (omega (arith, is, stop)))
@@ -147,7 +148,7 @@ replaced t u a k m x e = record {
 module _ (t u : Table) (a : Alike t u) where
   after-alike : (c : TableCall) → Alike (tableAfter t c) (tableAfter u c)
   unfolding tableAfter
-  after-alike (enable s) = replaced t u a _ _ (inUse s) (ap (place unused) (a .records))
+  after-alike (enable s) = replaced t u a _ _ (inUse (stored s)) (ap (place unused) (a .records))
   after-alike (disable i) = replaced t u a (placeOf i) (placeOf i) free refl
   after-alike (setArea x) = record {
     own = a .own;

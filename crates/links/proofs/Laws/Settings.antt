@@ -12,7 +12,8 @@ use Rattle.octets.proofs.Laws.Digits.{Below}
 use Rattle.prefix.specs.Prefix.{ofAddress}
 use Rattle.prefixes.specs.declared.Prefixes.{Prefixes}
 use Rattle.prefixes.specs.Prefixes.{meets}
-use Rattle.prefixes.proofs.Laws.Lists.{overlapping-sym, holds-one, set-refl, set-sym, set-trans, holds-alike, overlapping-alike, holds-as-meets, good-kept, overlapping-kept, within-kept, kept-twice}
+use Rattle.prefixes.proofs.Laws.Listed.{good-kept, overlapping-kept, within-kept, kept-twice}
+use Rattle.prefixes.proofs.Laws.Sets.{set-refl, set-sym, set-trans, holds-alike, holds-one, holds-as-meets, overlapping-alike, overlapping-sym}
 use Rattle.links.specs.declared.Settings.{Settings}
 use Rattle.links.specs.Settings.{settingsValues, groundRules, settingsRules, sameGround, overlaps, overlapsItself, reaches, stored, Same, EqualSettings}
 
@@ -75,18 +76,22 @@ unfolding reaches
 reaches-as-overlap s a f = holds-as-meets (s .prefixes) a f
 
 -- what the table keeps of settings is asked for no more and no less than they are
-
 pub rules-stored : (s : Settings) → settingsRules (stored s) ≡ settingsRules s
-unfolding settingsRules settingsValues groundRules
+unfolding settingsRules settingsValues groundRules stored
 rules-stored s = rw (good-kept (s .prefixes))
 
+pub ground-stored : (r s : Settings) → sameGround r (stored s) ≡ sameGround r s
+unfolding sameGround stored
+ground-stored r s = refl
+
 pub overlaps-stored : (r s : Settings) → overlaps r (stored s) ≡ overlaps r s
-unfolding overlaps
+unfolding overlaps stored
 overlaps-stored r s = overlapping-kept (r .prefixes) (s .prefixes)
 
 pub itself-stored : (s : Settings) → overlapsItself (stored s) ≡ overlapsItself s
-unfolding overlapsItself
+unfolding overlapsItself stored
 itself-stored s = within-kept (s .prefixes)
 
 pub stored-twice : (s : Settings) → stored (stored s) ≡ stored s
+unfolding stored
 stored-twice s = ap (λ (p : Prefixes). record { area = s .area; interface = s .interface; prefixes = p }) (kept-twice (s .prefixes))

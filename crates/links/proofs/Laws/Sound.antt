@@ -22,7 +22,7 @@ use Rattle.links.specs.Settings.{midOk, interfaceOk, retired, settingsRu
 use Rattle.links.specs.Slots.{placeOf, Has, free, valueSlots, inUse, counted, slotAt, any, place, unused, enabledCount}
 use Rattle.links.specs.Calls.{TableCall, enable, disable, setArea, setOwn, slotRules, rules, withSlot, withArea, withOwn, goodDynamic, startOk, startValues, cleared, fresh, plainStart, begin, start, startByValue, tableAfter, answer, reply}
 use Rattle.links.specs.Reached.{Reached, started, called, ByValue, Apart, Sound}
-use Rattle.links.proofs.Laws.Settings.{ground-sym, overlaps-sym, rules-stored, overlaps-stored, itself-stored, stored-twice}
+use Rattle.links.proofs.Laws.Settings.{ground-sym, overlaps-sym, rules-stored, ground-stored, overlaps-stored, itself-stored, stored-twice}
 use Rattle.links.proofs.Laws.Search.{any-place}
 use Rattle.links.proofs.Laws.Counted.{enabled-below, slot-of-stop}
 use Rattle.links.proofs.Laws.Slots.{free-has-none, any-none, counted-with, cleared-blank, cleared-length, cleared-rest, count-within}
@@ -88,7 +88,7 @@ module _ (most : ℕ) (memory : List Slot) where
         area = h .area;
         good = λ j r p.
             each (λ r. refusal (settingsRules r) ≡ 0) (rw (rules-stored s) (done-exactly (settingsRules s) (settings-numbered s) .1 (none-left (settingsRules s) (slotRules l s) n))) (h .good) now-is j r p;
-        areas = subst (Apart sameGround) (sym now-is) (apart-filled l k kept sameGround ground-sym (any-none (λ r. sameGround r s) l (slots .0)) (h .areas));
+        areas = subst (Apart sameGround) (sym now-is) (apart-filled l k kept sameGround ground-sym (λ j r p. ground-stored r s ∙ any-none (λ r. sameGround r s) l (slots .0) j r p) (h .areas));
         prefixes =
             subst (Apart overlaps) (sym now-is)
             (apart-filled l k kept overlaps overlaps-sym (λ j r p. overlaps-stored r s ∙ any-none (λ r. overlaps r s) l (apart .0) j r p) (h .prefixes));

@@ -4,7 +4,7 @@ use native.Mathlib.Nat.{le-total, min-le-left, min-le-right, min-comm, min-eq-le
 use native.Mathlib.Omega.{arith}
 use mathlib.Core.Path.{_≡_, refl, sym, _∙_, ap}
 use mathlib.Core.Logic.{Or·elim}
-use mathlib.Core.Bool.{Bool, true, false, cond, _&&_, and-eq-true-iff, and-true, and-false, or-eq-true-iff, So-prop, or-comm, or-true}
+use mathlib.Core.Bool.{Bool, true, false, cond, _&&_, _||_, and-eq-true-iff, and-true, and-false, or-eq-true-iff, So-prop, or-comm, or-true}
 use mathlib.Core.List.{List}
 use lib.Dec.{eqb, leb, ltb}
 use lib.ListN.{length, take}
@@ -18,7 +18,7 @@ use Rattle.octets.proofs.Laws.Digits.{Below}
 use Rattle.octets.proofs.Laws.Bits.{length-bits}
 use Rattle.prefix.proofs.Laws.Words.{length-words, bytes-of-bytes}
 use Rattle.prefix.specs.declared.Prefix.{Prefix}
-use Rattle.prefix.specs.Prefix.{bytesOf, ofBytes, ofAddress, noPrefix, agrees, holds, holdsPrefix, overlap}
+use Rattle.prefix.specs.Prefix.{bytesOf, ofBytes, ofAddress, noPrefix, agrees, holds, holdsPrefix, overlap, mayOverlap}
 
 -- as many first bits are equal: fewer are too
 fewer : (m n : ℕ) (a b : List ℕ) → m ≤ n → take n (bits a) ≡ take n (bits b) → take m (bits a) ≡ take m (bits b)
@@ -41,6 +41,15 @@ shared-held p q h some e =
 
 turned : (p q : Prefix) → Shared p q → Shared q p
 turned p q e = rw (min-comm (q .len) (p .len)) (sym e)
+
+-- two that overlap may: who goes by the first words passes over none of them
+pub overlap-may : (p q : Prefix) → overlap p q ≡ true → mayOverlap p q ≡ true
+unfolding mayOverlap
+overlap-may p q e = go (eqb (min (p .len) (q .len)) 0 || ltb 64 (min (p .len) (q .len)))
+  where
+    go : (b : Bool) → cond b true (overlap p q) ≡ true
+    go true = refl
+    go false = e
 
 -- two prefixes overlap if neither is none and the shorter's bits are the other's
 pub overlap-shorter : (p q : Prefix)

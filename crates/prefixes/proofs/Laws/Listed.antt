@@ -1,16 +1,16 @@
 -- What is listed, kept, met: by the places of a link and its count.
-use Prim.Native.Nat.{_<_}
-use native.Mathlib.Omega.{arith}
+use Prim.Native.Nat.{ℕ, zero, suc, _≤_}
 use mathlib.Core.Path.{_≡_, refl, sym, _∙_, ap}
-use mathlib.Core.Logic.{_⊎_, inl, inr, ⊎-elim}
-use mathlib.Core.Bool.{Bool, true, false, cond, _&&_, _||_, or-false, and-eq-true-iff}
+use mathlib.Core.Bool.{Bool, true, false, cond, _&&_, _||_, and-eq-true-iff}
 use mathlib.Core.List.{List, [], _∷_}
 use lib.Dec.{eqb, ltb}
-use borrow.Author.Tests.{lt-ltb, le-ltb, ltb-true, eqb-true, eqb-false}
+use borrow.Author.Tests.{le-ltb}
+use Rattle.octets.proofs.Laws.Tests.{clash}
 use Rattle.prefix.specs.declared.Prefix.{Prefix}
-use Rattle.prefix.specs.Prefix.{noPrefix, overlap, goodPrefix}
+use Rattle.prefix.specs.Prefix.{noPrefix, overlap, mayOverlap, goodPrefix}
+use Rattle.prefix.proofs.Laws.Overlap.{overlap-may}
 use Rattle.prefixes.specs.declared.Prefixes.{Prefixes}
-use Rattle.prefixes.specs.Prefixes.{place, listed, listedAt, anyOf, allOf, within, tooMany, goodPrefixes, meets, overlapping, overlapWithin, mayMeet, noPrefixes, ofFour, kept, single}
+use Rattle.prefixes.specs.Prefixes.{place, listed, listedAt, anyOf, allOf, within, goodPrefixes, meets, overlapping, overlapWithin, mayMeet, noPrefixes, ofFour, kept, single}
 use Rattle.prefixes.proofs.Laws.Count.{count, overlap-none, blanked, blanked-twice, any-first, any-blanked}
 
 pub listed-kept : (s : Prefixes) → listed (kept s) ≡ listed s
@@ -20,8 +20,13 @@ listed-kept s = blanked (place s 0) (place s 1) (place s 2) (place s 3) (count (
 pub kept-twice : (s : Prefixes) → kept (kept s) ≡ kept s
 kept-twice s = blanked-twice (place s 0) (place s 1) (place s 2) (place s 3) (count (s .count))
 
-pub many-kept : (s : Prefixes) → tooMany (kept s) ≡ tooMany s
-many-kept s = refl
+-- nothing stands past the count
+pub kept-blank : (s : Prefixes) (k : ℕ) → s .count ≤ k → place (kept s) k ≡ noPrefix
+kept-blank s zero h = rw (le-ltb 0 (s .count) h)
+kept-blank s (suc zero) h = rw (le-ltb 1 (s .count) h)
+kept-blank s (suc (suc zero)) h = rw (le-ltb 2 (s .count) h)
+kept-blank s (suc (suc (suc zero))) h = rw (le-ltb 3 (s .count) h)
+kept-blank s (suc (suc (suc (suc k)))) h = refl
 
 -- what is defined by the list is the same of what is kept
 pub good-kept : (s : Prefixes) → goodPrefixes (kept s) ≡ goodPrefixes s
@@ -71,25 +76,16 @@ pub meets-from : (s : Prefixes) (p : Prefix) → meets s p ≡ (ltb 0 (s .count)
 unfolding meets listed
 meets-from s p = any-first (place s 0) (place s 1) (place s 2) (place s 3) (λ q. overlap q p) (count (s .count))
 
-some-listed : (s : Prefixes) (p : Prefix) → meets s p ≡ true → 0 < s .count
-some-listed s p e = ltb-true 0 (s .count) ((simp and-eq-true-iff at (sym (meets-from s p) ∙ e)) .0)
-
-one-listed : (s : Prefixes) (p : Prefix) → s .count ≡ 1 → meets s p ≡ overlap (place s 0) p
-one-listed s p one = rw (meets-from s p, lt-ltb 0 (s .count) (omega arith), le-ltb 1 (s .count) (omega arith)) (or-false (overlap (place s 0) p))
-
-either-way : (t : Bool) → (t ≡ true) ⊎ (t ≡ false)
-either-way true = inl refl
-either-way false = inr refl
-
 -- a link that is passed over has nothing that overlaps
 pub may-meet : (s : Prefixes) (p : Prefix) → meets s p ≡ true → mayMeet s p ≡ true
 unfolding mayMeet
-may-meet s p e =
-    let some = some-listed s p e in
-    ⊎-elim
-    (λ one. rw one (sym (one-listed s p (eqb-true (s .count) 1 one)) ∙ e))
-    (λ other. rw other (lt-ltb _ (s .count) (omega (arith, eqb-false (s .count) 1 other))))
-    (either-way (eqb (s .count) 1))
+may-meet s p e = go (ltb 1 (s .count)) (overlap (place s 0) p) refl refl (simp and-eq-true-iff at (sym (meets-from s p) ∙ e) .1)
+  where
+    go : (several first : Bool) → ltb 1 (s .count) ≡ several → overlap (place s 0) p ≡ first
+        → (overlap (place s 0) p || from1 s p) ≡ true → (several || mayOverlap (place s 0) p) ≡ true
+    go true first m o h = refl
+    go false true m o h = overlap-may (place s 0) p o
+    go false false m o h = clash (rw (o, m) at h) refl
 
 pub single-listed : (p : Prefix) → listed (single p) ≡ cond (eqb (p .len) 0) [] (p ∷ [])
 unfolding listed
