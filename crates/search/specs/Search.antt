@@ -5,7 +5,7 @@ use mathlib.Core.List.{List}
 use lib.Dec.{eqb}
 use lib.ListN.{getD}
 use Rattle.area.specs.declared.Area.{Area}
-use Rattle.area.specs.Area.{normal, hasNormal, sameArea}
+use Rattle.area.specs.Area.{eqZ, normal, hasNormal, sameArea}
 use Rattle.prefix.specs.declared.Prefix.{Prefix}
 use Rattle.prefix.specs.Prefix.{noPrefix}
 use Rattle.prefixes.specs.Prefixes.{meets, mayMeet}

@@ -1,13 +1,13 @@
 -- A change does not change the normal form. Numbers of an area: shape s, latitude y, longitude x, a, b, angle g.
 use Prim.Native.Nat.{ℕ, _+_, _%_, _<_}
 use native.Mathlib.Omega.{arith}
-use mathlib.Core.Path.{_≡_, refl, sym, _∙_, ap}
-use mathlib.Core.Bool.{Bool, true, false, cond, _&&_, _||_}
+use mathlib.Core.Path.{_≡_, refl, sym, _∙_, ap, subst}
+use mathlib.Core.Bool.{Bool, true, false, cond, _&&_, _||_, and-eq-true-iff}
 use lib.Dec.{eqb, ltb}
 use lib.IntN.{ℤ, pos, negℤ}
 use borrow.Author.Tests.{eqb-true, eqb-false, eq-eqb, ne-eqb, ltb-true, ltb-false, lt-ltb, le-ltb}
 use Rattle.area.specs.declared.Area.{Area}
-use Rattle.area.specs.Area.{eqZ, normalLongitude, described, isRound, normalBy, normal}
+use Rattle.area.specs.Area.{eqZ, normalLongitude, described, isRound, normalBy, normal, sameNumbers, hasNormal}
 use Rattle.area.specs.Ground.{area, rectangle, ellipse, Change, circle, halfTurn, exchange, disc, ends, Chain, none, one, back, join}
 
 -- how a and b compare, as `normal` asks it, and as it asks it of b and a
@@ -96,3 +96,10 @@ normal-centre x = by-tests (isRound x) (eqb (x .a) (x .b)) (ltb (x .a) (x .b))
     by-tests false true q = (refl, refl)
     by-tests false false true = (refl, refl)
     by-tests false false false = (refl, refl)
+
+-- so an area with this normal form has its latitude
+pub normal-latitude : (x n : Area) → hasNormal x n ≡ true → eqZ (x .latitude) (n .latitude) ≡ true
+unfolding hasNormal sameNumbers
+normal-latitude x n e =
+    let h = simp (hasNormal, sameNumbers, and-eq-true-iff) at e in
+    subst (λ (z : ℤ). eqZ z (n .latitude) ≡ true) (normal-centre x .0) (h .0 .0 .0 .0 .1)

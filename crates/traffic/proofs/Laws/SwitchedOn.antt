@@ -8,21 +8,17 @@ use lib.Dec.{eqb}
 use lib.ListN.{getD}
 use borrow.Author.Tests.{eqb-true, eqb-false}
 use Rattle.octets.proofs.Laws.Tests.{clash}
-use Rattle.area.proofs.Laws.Same.{same-refl}
 use Rattle.links.specs.declared.Settings.{Settings}
 use Rattle.links.specs.declared.Slot.{Slot}
 use Rattle.links.specs.declared.Table.{Table}
-use Rattle.links.specs.Settings.{Same}
 use Rattle.links.specs.Slots.{Has, free, counted}
 use Rattle.links.specs.Calls.{enable, reply}
 use Rattle.links.specs.Reached.{Reached, called}
 use Rattle.links.specs.Demands.{Adds, TableDemand2}
+use Rattle.links.proofs.Laws.Settings.{equal-refl}
 use Rattle.links.proofs.Laws.Demands.{refuses, table-demand-2}
 use Rattle.traffic.specs.Demand3.{Wider, Demand3, SwitchedOn}
 use Rattle.traffic.proofs.Laws.Demand3.{demand-3}
-
-itself : (x : Settings) → Same x x
-itself x = record { area = same-refl (x .area); prefix = refl; interface = refl }
 
 module _ (most : ℕ) (memory : List Slot) (t : Table) (r : Reached most memory t) (s : Settings) where
   abbrev after : Table
@@ -38,7 +34,7 @@ module _ (most : ℕ) (memory : List Slot) (t : Table) (r : Reached most memory 
     second = called r (enable s);
     tvl = tvl;
     dgvl = dgvl;
-    stops = λ k x h. (k, x, stays k x h, itself x);
+    stops = λ k x h. (k, x, stays k x h, equal-refl x);
   }
 
   refused : reply t (enable s) .number ≢ 0 → Wider t after
