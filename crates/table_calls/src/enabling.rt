@@ -82,7 +82,7 @@ pub fn overlap(before: Inquiry, same: Found, s: Settings) -> PrefixInquiry
         };
     }
     PrefixInquiry {
-        number: replies::DONE,
+        number: number,
         count: before.count,
     }
 }
