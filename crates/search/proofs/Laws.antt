@@ -1,4 +1,3 @@
 -- The laws of a search.
 pub mod Asked
 pub mod Found
-pub mod Overlapping

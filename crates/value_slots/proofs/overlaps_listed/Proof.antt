@@ -6,14 +6,14 @@ use Rattle.links.specs.Slots.{counted, any}
 use Rattle.search.specs.declared.Found.{Found}
 use Rattle.search.specs.declared.Wanted.the-variants.{Overlapping}
 use Rattle.search.specs.Search.{passes}
-use Rattle.search.proofs.Laws.Overlapping.{none-past}
+use Rattle.search.proofs.Laws.Overlaps.{none-past}
 use Rattle.value_slots.proofs.overlaps_listed.Statement.{statement}
 use Rattle.value_slots.proofs.overlaps_listed.Tie as tie
 
 returns : tie.Need-returns
 returns c =
     let args = c .before .before .args in
-    sym (none-past (args .s) (args .k) (omega arith) (counted (args .t)))
+    sym (none-past (counted (args .t)) (args .s) (args .k) (omega arith))
 
 returns-2 : tie.Need-returns-2
 returns-2 c =
