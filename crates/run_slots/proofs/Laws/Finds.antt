@@ -1,20 +1,23 @@
--- What the loop of `look` keeps, and what it answers at each of its ends.
+-- What the loop of `look` keeps, and what it answers at each of its ends; and that `find` hands it the whole question.
 use Prim.Native.Nat.{ℕ, _+_, _≤_, _<_, min}
 use native.Mathlib.Omega.{arith}
-use mathlib.Core.Path.{_≡_, refl, sym, _∙_, ap}
+use mathlib.Core.Path.{_≡_, refl, sym, _∙_, ap, subst}
 use mathlib.Core.Bool.{Bool, true, false, not}
 use mathlib.Core.List.{List}
-use lib.Dec.{T}
+use lib.Dec.{T, eqb}
 use lib.ListN.{length, getD, take, length-take}
 use lib.Seq.{getD-take}
 use Rattle.octets.proofs.Laws.Tests.{clash}
+use Rattle.area.specs.declared.Area.{Area}
+use Rattle.prefix.specs.declared.Prefix.{Prefix}
 use Rattle.links.specs.declared.Chosen.{Chosen}
 use Rattle.links.specs.declared.Slot.{Slot}
 use Rattle.links.specs.Slots.{free}
 use Rattle.links.proofs.Laws.Search.{Looking, start, hit, pass, end}
 use Rattle.search.specs.declared.Wanted.{Wanted}
-use Rattle.search.specs.Search.{linkOf, fits, mayFit, foundIn}
-use Rattle.search.proofs.Laws.Asked.{fits-may}
+use Rattle.search.specs.declared.Wanted.the-variants.{Unused, SameGround, Overlapping}
+use Rattle.search.specs.Search.{linkOf, fits, mayFit, sortOf, areaOf, prefixOf, question, foundIn}
+use Rattle.search.proofs.Laws.Asked.{told-by-parts, fits-may}
 use Rattle.search.proofs.Laws.Found.{found-at, found-none}
 use Rattle.run_slots.specs.Run.{foundAt, foundNone}
 
@@ -37,6 +40,16 @@ passed-over u x e = go (fits u x) refl
     go : (b : Bool) → fits u x ≡ b → b ≡ false
     go true h = clash (fits-may u x h) e
     go false h = refl
+
+-- a question that is asked by its sort as a constant
+pub asks-it : (u : Wanted) {k r : ℕ} {a : Area} {p : Prefix} → r ≡ sortOf u → a ≡ areaOf u → p ≡ prefixOf u → r ≡ k → question k a p ≡ u
+asks-it u er ea ep e = rw (← e, er, ea, ep) (told-by-parts u)
+
+-- what is neither of the first two sorts is of the third
+pub the-third : (u : Wanted) {r : ℕ} → r ≡ sortOf u → T (not (eqb r 0)) → T (not (eqb r 1)) → r ≡ 2
+the-third Unused e first second = absurd (subst (λ (r : ℕ). T (not (eqb r 0))) e first)
+the-third (SameGround a) e first second = absurd (subst (λ (r : ℕ). T (not (eqb r 1))) e second)
+the-third (Overlapping p) e first second = e
 
 pub no-more-than : (count len : ℕ) {n : ℕ} → n ≡ min count len → n ≤ len
 no-more-than count len e = omega (arith, e)
