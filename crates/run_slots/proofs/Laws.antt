@@ -18,4 +18,5 @@ pub mod Locals
 pub mod Reads
 pub mod Bytes
 pub mod Finds
+pub mod Overlaps
 pub mod Clears
