@@ -9,7 +9,7 @@ use lib.Dec.{lit<, ltb, ltb→lt, nltb→le}
 use lib.WfN.{Nat·lt-wfRel}
 use mir.Val.{vbool}
 use types.Share.{arr-parts}
-use Rattle.run_slots.proofs.Laws.Walk.{_≡_, refl, sym, _∙_, ℕ, _+_, _-_, _*_, _<_, _^_, List, [], _∷_, length, getD, take, URA, Ty, named, imm, w8, w64, tyInt, tyBool, tyPtr, tyRef, Val, vint, vptr, SProp, ent, emp, via, fst∗, id⊢, Lft, GName, Share, ftrue, flft, fres, fobor, fshr-bor, Memory, Routine, Heap, Env, Calls, Loops, WpFn, Tables, Atoms, Fun, factI, givenOf, tables, tablesOf, afterTurn, Given, Item, Sq, runs, atRet, ‵, _⊛_, ⋆, _$_, _∵_, !, qed, by, move, keep, split, join, fsplit, fjoin, suffices, frame, done, look, init, store, forget, stop, from, lit, of-opd, and-then, no-more, bin, assigns, assigns-last, first, branches, skips, blocks, loops, again, exec, returns, returns-within, enter, alloc1, alloc0, params1, pass1, pass0, WpFn-mono, owns, Is, shows, uint-vals, uint-tells, u8, usize, RefT, shares, pointee, sliceTy, sliceVal, ShrSlice, Room, at-slice, heres, codedHoleys, slice-vals, shr-slice-tells, row, looks-slice, shuts-slice, plain, nothing, owned, Contract, Triple, Vals, onEntry, tripleOf, entered, cited, says, Stays, stay-none, stay-none-slice, walkOf, ends-at, walked, goes-none, goes-none-slice, walk-meets, yes}
+use Rattle.run_slots.proofs.Laws.Walk.{_≡_, refl, _∙_, ℕ, _+_, _-_, _*_, _<_, _^_, List, [], _∷_, length, getD, take, URA, Ty, named, imm, w8, w64, tyInt, tyBool, tyPtr, tyRef, Val, vint, vptr, SProp, ent, emp, via, fst∗, id⊢, Lft, GName, Share, ftrue, flft, fres, fobor, fshr-bor, Memory, Routine, Heap, Env, Calls, Loops, WpFn, Tables, Atoms, Fun, factI, givenOf, tables, tablesOf, afterTurn, Given, Item, Sq, runs, atRet, ‵, _⊛_, ⋆, _$_, _∵_, !, qed, by, move, keep, split, join, fsplit, fjoin, suffices, frame, done, look, init, store, forget, stop, from, lit, of-opd, and-then, no-more, bin, assigns, assigns-last, first, branches, skips, blocks, loops, again, exec, returns, returns-within, enter, alloc1, alloc0, params1, pass1, pass0, WpFn-mono, owns, Is, shows, uint-vals, uint-tells, u8, usize, RefT, shares, pointee, sliceTy, sliceVal, ShrSlice, Room, at-slice, heres, codedHoleys, slice-vals, shr-slice-tells, row, looks-slice, shuts-slice, plain, nothing, owned, Contract, Triple, Vals, onEntry, tripleOf, entered, cited, says, Stays, stay-none, stay-none-slice, walkOf, ends-at, walked, goes-none, goes-none-slice, walk-meets, yes}
 use Rattle.run_slots.proofs.Laws.Data.{word, byte, truth, asks}
 use Rattle.run_slots.proofs.Laws.Sorts.{slot, area, prefix, chosen, found}
 use Rattle.run_slots.proofs.Laws.Finds.{Behind, began, passed, passed-over, refused, at-one, at-none, no-more-than}
