@@ -9,7 +9,8 @@ use crate::call::{Destination, GEO_BROADCAST, TSB};
 use crate::leaving::Request;
 use crate::link::InterfaceNumbers;
 use crate::packet::{fault_place, UNSPECIFIED};
-use crate::prefix::{Prefix, NO_PREFIX};
+use crate::prefix::Prefix;
+use crate::prefix_list::{PrefixList, NO_PREFIXES};
 use crate::reply::{Refusal, DONE};
 use crate::table::{StartSettings, StopSettings, Table, DGVL, TVL};
 
@@ -43,7 +44,7 @@ pub fn cases() -> Vec<Case> {
 const LAN: InterfaceNumbers = InterfaceNumbers { kind: 1, flag: 1 };
 const STOP_AREA: Area =
     Area { shape: RECTANGLE, latitude: 0, longitude: 0, a: 500, b: 300, angle: 90 };
-const STOP: StopSettings = StopSettings { area: STOP_AREA, prefix: NO_PREFIX, interface: LAN };
+const STOP: StopSettings = StopSettings { area: STOP_AREA, prefixes: NO_PREFIXES, interface: LAN };
 
 /// A table of maximum 2 whose only stop link has STOP's settings.
 fn table_with_one_stop() -> Table {
@@ -83,7 +84,7 @@ fn second_stop_at_maximum_2() -> Case {
     bytes[0] = 0x20;
     let second = StopSettings {
         area: Area { latitude: 1_000, ..STOP_AREA },
-        prefix: Prefix { length: 8, bytes },
+        prefixes: PrefixList::of(&[Prefix { length: 8, bytes }]),
         ..STOP
     };
     let outcome = table_with_one_stop().enable(&second);

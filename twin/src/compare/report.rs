@@ -8,10 +8,11 @@ use crate::orders::Counts;
 use crate::pairs::{allowed_pairs, name_of_kind, Seen};
 use crate::replay::{for_each_call, Answer, Replay};
 use crate::resolving;
+use crate::several;
 use crate::thousands;
 
-/// Files, pairs, situations, next hops, likenesses and what thousands of stops show,
-/// each passed or failed.
+/// Files, pairs, situations, next hops, likenesses and what several prefixes and
+/// thousands of stops show, each passed or failed.
 #[derive(Default)]
 pub struct Score {
     pub passed: u64,
@@ -42,6 +43,7 @@ pub struct Coverage {
     situations: Counts,
     next_hops: resolving::Counts,
     likenesses: alike::Counts,
+    several: several::Counts,
     thousands: thousands::Counts,
 }
 
@@ -54,6 +56,7 @@ impl Coverage {
             situations: Counts::default(),
             next_hops: resolving::Counts::default(),
             likenesses: alike::Counts::default(),
+            several: several::Counts::default(),
             thousands: thousands::Counts::default(),
         }
     }
@@ -67,6 +70,7 @@ impl Coverage {
         if self.subject.is_own(number) {
             self.pairs.add(own_lines);
         }
+        self.several.begin_day(limits, input, own_lines);
         self.thousands.begin_day(input, own_lines);
         let mut own_lines = own_lines.iter();
         // Once for all of them, since thousands of stops take their time.
@@ -81,6 +85,7 @@ impl Coverage {
         self.situations.add_call(replay, kind, call);
         self.next_hops.add_call(replay, kind, call);
         self.likenesses.add_call(replay, call, answer);
+        self.several.add_call(replay, kind, call, answer);
         if self.subject == Subject::Dispatchlist {
             self.thousands.add_call(replay, kind, call, answer);
         }
@@ -96,6 +101,7 @@ impl Coverage {
         report_situations(&self.situations, score);
         report_next_hops(&self.next_hops, score);
         report_likenesses(&self.likenesses, score);
+        report_several(&self.several, score);
         if self.subject == Subject::Dispatchlist {
             report_thousands(&self.thousands, score);
         }
@@ -134,6 +140,16 @@ fn report_likenesses(counts: &alike::Counts, score: &mut Score) {
     println!("{:<16} {:<60} {:>9}", "record", "areas compared", "count");
     for row in counts.rows() {
         score.count_seen(&format!("{:<16} {:<60}", row.caller.name(), row.way.name()), row.count);
+    }
+}
+
+fn report_several(counts: &several::Counts, score: &mut Score) {
+    println!("{:<16} {:<60} {:>9}", "record", "several prefixes", "count");
+    for (kind, name, count) in counts.rows() {
+        score.count_seen(
+            &format!("{:<16} {name:<60}", name_of_kind(RecordKind::Known(kind))),
+            count,
+        );
     }
 }
 
