@@ -1,6 +1,7 @@
 //! The cases of "Cases at the edges" that bear no *. They run in a program, and
 //! in an independent second one (`edge-stars`): this is the second one.
 
+mod operators;
 mod sent;
 
 use crate::area::{Area, RECTANGLE};
@@ -31,11 +32,12 @@ impl Case {
 }
 
 pub fn cases() -> Vec<Case> {
-    let mut cases = vec![
+    let mut cases = operators::cases();
+    cases.extend([
         second_stop_at_maximum_2(),
         broadcast_beside_the_only_stop(),
         buffer_of_packet_and_13(),
-    ];
+    ]);
     cases.extend(places_of_bad_packets());
     cases.extend(sent::cases());
     cases
@@ -78,6 +80,13 @@ fn number_of<T>(outcome: Result<T, Refusal>) -> u8 {
     outcome.map_or_else(Refusal::number, |_| DONE)
 }
 
+fn link_or_number(outcome: Result<u64, Refusal>) -> String {
+    match outcome {
+        Ok(link) => format!("link {link}"),
+        refused => number_of(refused).to_string(),
+    }
+}
+
 /// `edge-full`: maximum 2 and one stop link, a second with new settings gets 6.
 fn second_stop_at_maximum_2() -> Case {
     let mut bytes = [0; 16];
@@ -108,14 +117,10 @@ fn broadcast_beside_the_only_stop() -> Case {
         packet: &packet,
     };
     let outcome = table_with_one_stop().indication(&indication, &mut [0; 1_294]);
-    let got = match outcome {
-        Ok(delivery) => format!("link {}", delivery.link),
-        Err(refusal) => format!("reply {}", refusal.number()),
-    };
     Case {
         name: "broadcast to a rectangle with the angle one off".to_string(),
         expected: format!("link {DGVL}"),
-        got,
+        got: link_or_number(outcome.map(|delivery| delivery.link)),
     }
 }
 
@@ -183,9 +188,9 @@ mod tests {
     use super::*;
 
     #[test]
-    fn all_thirteen_agree() {
+    fn all_twenty_agree() {
         let cases = cases();
-        assert_eq!(cases.len(), 9 + 4);
+        assert_eq!(cases.len(), 7 + 9 + 4);
         for case in cases {
             assert!(case.agrees(), "{}", case.line());
         }

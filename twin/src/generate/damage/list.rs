@@ -109,13 +109,13 @@ mod tests {
     use crate::read::read_record;
 
     #[test]
-    fn each_way_is_broken_whatever_stands_behind() {
+    fn each_way_is_broken_and_some_whatever_stands_behind() {
         let mut random = Random::new(43);
         for way in 0..20 * WAYS {
             let BrokenRecord { mut bytes, must_be_last } = broken(&mut random, way);
             assert!(read_record(&bytes, 0).is_err(), "{way}: {bytes:02x?}");
             bytes.extend([1; 300]);
-            assert_eq!(read_record(&bytes, 0).is_ok(), must_be_last, "{way}: {bytes:02x?}");
+            assert!(must_be_last || read_record(&bytes, 0).is_err(), "{way}: {bytes:02x?}");
         }
     }
 }
