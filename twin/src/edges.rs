@@ -187,6 +187,10 @@ fn number_and_place<T>(outcome: Result<T, Refusal>, packet: &[u8]) -> String {
 mod tests {
     use super::*;
 
+    pub fn assert_printed(cases: &[Case], lines: &[&str]) {
+        assert_eq!(cases.iter().map(Case::line).collect::<Vec<_>>(), lines);
+    }
+
     #[test]
     fn all_twenty_agree() {
         let cases = cases();

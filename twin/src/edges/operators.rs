@@ -85,11 +85,11 @@ fn enabled(prefixes: PrefixList) -> String {
 
 #[cfg(test)]
 mod tests {
+    use super::super::tests::assert_printed;
     use super::*;
 
     #[test]
     fn as_they_are_printed() {
-        let lines = cases().iter().map(Case::line).collect::<Vec<_>>();
         let expected = [
             "indication to the first operator: expected link 2 got link 2",
             "indication to the second operator: expected link 2 got link 2",
@@ -99,6 +99,6 @@ mod tests {
             "second mast with five prefixes: expected 29 got 29",
             "second mast without a prefix: expected link 3 got link 3",
         ];
-        assert_eq!(lines, expected);
+        assert_printed(&cases(), &expected);
     }
 }
