@@ -126,7 +126,7 @@ module _ {M : Type 1} (𝓤 : URA M) (H : Heap 𝓤) (A : Atoms 𝓤) (W : Given
             assigns ! (bin ! (copied-part ! 4 refl refl refl refl) (copied-part ! 4 refl refl refl refl) tt) (from ! (stop !)) (init ! 6 refl (tt, tt)) $
             assigns ! (bin ! (copied ! 4 refl) (copied-part ! 4 refl refl refl refl) tt) (from ! (stop !)) (init ! 4 refl (tt, tt)) $
             assigns ! (bin ! (copied ! 4 refl) (copied-part ! 4 refl refl refl refl) tt) (from ! (stop !)) (init ! 28 refl (tt, tt)) $
-            returns ! (look ! 28 refl) $
+            returns ! (look ! 28 {v = vbool (e .any || f .any || g .any || h .any)} refl) $
             leaves ! (held (holds (vbool (e .any || f .any || g .any || h .any))) (holds (chosen .val c) ∷ holds (found .val e) ∷ holds (found .val f) ∷ holds (found .val g) ∷ holds (found .val h) ∷ room ∷ room ∷ holds (vbool (e .any || f .any)) ∷ holds (vbool (e .any || f .any || g .any)) ∷ [])) $
             by ! (exits (e .any || f .any || g .any || h .any) right)
 
