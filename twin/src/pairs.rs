@@ -17,12 +17,12 @@ pub type Pair = (RecordKind, u8);
 ///
 /// Not among them: 13, since 9 comes before it and 1,294 is 1,280 + 14
 /// (`listing-lent`); 29, since a count above four is a broken record; and 23, since the
-/// run of `dispatchlist` is long enough for every maximum (`dispatch-list`). So `daylist` and `dispatchlist` have the same pairs. In
-/// an indication 1 is left for its MIDs only, since a transport outside 1..4 is broken
-/// and the sort follows from the transport.
+/// run of `dispatchlist` is long enough for every maximum (`dispatch-list`). So `daylist`
+/// and `dispatchlist` have the same pairs. In an indication 1 is left for its MIDs only,
+/// since a transport outside 1..4 is broken and the sort follows from the transport.
 ///
-/// The two kinds of enables have the same replies: in kind 2 a prefix can be bad, and can
-/// overlap a stop's. The two kinds of requests have the same replies. In kind 7 the next hop is the
+/// The two kinds of enables have the same replies, since one prefix can be bad, and can
+/// overlap a stop's. So have the two kinds of requests. In kind 7 the next hop is the
 /// packet's destination (`record-hop`), which is good where 12 is asked: :: and ::1
 /// are 10 before, and multicast is never 12. So 12 is left for a destination without
 /// FF FE where the MID is derived, and for no MID given.

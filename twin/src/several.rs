@@ -15,6 +15,8 @@ use std::collections::BTreeMap;
 use crate::call::{kind, Call};
 use crate::limits::Limits;
 use crate::listing::{Line, RecordKind};
+use crate::packet::Address;
+use crate::prefix::Prefix;
 use crate::replay::{for_each_call, Answer, Replay};
 use crate::reply::{Refusal, DONE};
 use crate::table::{Stop, Table};
@@ -58,6 +60,12 @@ struct Record<'a> {
     past: &'a Past,
     kind: u64,
     answer: Answer,
+}
+
+/// Outside by the prefix's last bit alone.
+fn is_one_bit_beside(prefix: &Prefix, address: &Address) -> bool {
+    let differing = u128::from_be_bytes(prefix.bytes) ^ u128::from_be_bytes(*address);
+    differing.checked_shr(128 - prefix.length as u32) == Some(1)
 }
 
 /// Every situation that must be seen: the record's kind, and its name.

@@ -1,4 +1,5 @@
--- RULES, Cases at the edges: a stop with several prefixes (edge-several), with what tells these rows from wrong ones.
+-- RULES, Cases at the edges: a stop with several prefixes (edge-several). Rows that the rule does not name judge definitions that its
+-- own would let pass: overlaps at two different places, the last of four places, what stands past the count.
 use Prim.Native.Nat.{ℕ}
 use mathlib.Core.List.{List, [], _∷_, _++_}
 use lib.ListN.{getD}

@@ -113,18 +113,10 @@ fn conditions_of_an_enable() {
     let mut bad_prefix = stop().prefixes;
     bad_prefix.places[0].bytes[1] = 1;
     let elsewhere = Area { latitude: 1, ..stop().area };
-    let [of_stop, mut other] = [stop().prefixes.places[0]; 2];
-    other.bytes[0] = 0x30;
-    let too_many = PrefixList { count: 5, places: [of_stop; 4] };
-    let with_length_0 = PrefixList::of(&[other, NO_PREFIX, of_stop]);
-    let twice = PrefixList::of(&[other, other]);
     for (settings, expected) in [
         (stop(), &[4, 5, 6][..]),
         (StopSettings { area: elsewhere, ..stop() }, &[5, 6]),
         (StopSettings { prefixes: bad_prefix, ..stop() }, &[3, 4, 5, 6]),
-        (StopSettings { prefixes: too_many, ..stop() }, &[29, 4, 5, 6]),
-        (StopSettings { prefixes: with_length_0, ..stop() }, &[3, 4, 5, 6]),
-        (StopSettings { area: elsewhere, prefixes: twice, ..stop() }, &[5, 6]),
         (StopSettings { area: bad_area, ..stop() }, &[2, 5, 6]),
         (StopSettings { interface: retired, ..stop() }, &[30, 4, 5, 6]),
         (StopSettings { interface: also_bad_flag, ..stop() }, &[1, 30, 4, 5, 6]),
@@ -143,6 +135,30 @@ fn conditions_of_an_enable() {
             [],
             "before the start it is 16"
         );
+    }
+}
+
+/// No record has a count above four, so that 29 is asked of the call alone.
+#[test]
+fn conditions_of_a_list() {
+    let mut full = table(1);
+    full.enable(&stop()).unwrap();
+    let [of_stop, mut other] = [stop().prefixes.places[0]; 2];
+    other.bytes[0] = 0x30;
+    let bad_area = Area { angle: 360, ..stop().area };
+    let elsewhere = Area { latitude: 1, ..stop().area };
+    let too_many = |prefix| PrefixList { count: 5, places: [prefix; 4] };
+    for (area, prefixes, expected) in [
+        (stop().area, too_many(of_stop), &[29, 4, 5, 6][..]),
+        (bad_area, too_many(NO_PREFIX), &[2, 29, 3, 6]),
+        (stop().area, PrefixList::of(&[other, NO_PREFIX, of_stop]), &[3, 4, 5, 6]),
+        (elsewhere, PrefixList::of(&[other, NO_PREFIX]), &[3, 6]),
+        (elsewhere, PrefixList::of(&[other, other]), &[5, 6]),
+        (elsewhere, PrefixList::of(&[other, of_stop]), &[5, 6]),
+        (elsewhere, PrefixList { count: 1, places: [other; 4] }, &[6]),
+    ] {
+        let call = Call::Enable(StopSettings { area, prefixes, ..stop() });
+        assert_eq!(holding(DAYLIST, Some(&full), &call), expected, "{prefixes:?}");
     }
 }
 

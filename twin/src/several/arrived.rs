@@ -1,10 +1,9 @@
 //! What shows by which prefix of which stop an indication is delivered (`line-3`).
 
-use super::{Record, PLACES};
+use super::{is_one_bit_beside, Record, PLACES};
 use crate::arriving::Indication;
 use crate::call::GEO_UNICAST;
 use crate::packet::{check_packet, Address};
-use crate::prefix::Prefix;
 
 const TO_AND_FROM_ONE: &str = "0 to and from two prefixes of one stop";
 const TO_A_DISABLED: &str = "0 to the 2nd or a later one of a disabled stop";
@@ -94,19 +93,11 @@ fn names_of_nobody(record: &Record, to: &Address, from: &Address) -> Vec<String>
         let beside = listed.filter(|(_, prefix)| is_one_bit_beside(prefix, to));
         names.extend(beside.map(|(place, _)| format!("0 one bit beside a stop's {place}")));
     }
-    let held = |address: &Address| {
-        let lists = record.past.gone.iter().map(|gone| gone.stop.prefixes);
-        lists
-            .into_iter()
-            .any(|list| list.listed().iter().skip(1).any(|prefix| prefix.holds_address(address)))
-    };
-    names.extend(held(to).then(|| TO_A_DISABLED.to_string()));
-    names.extend(held(from).then(|| FROM_A_DISABLED.to_string()));
+    let lists = record.past.gone.iter().map(|gone| gone.stop.prefixes.listed());
+    let later: Vec<_> = lists.flat_map(|listed| listed.iter().skip(1)).collect();
+    for (address, name) in [(to, TO_A_DISABLED), (from, FROM_A_DISABLED)] {
+        let held = later.iter().any(|prefix| prefix.holds_address(address));
+        names.extend(held.then(|| name.to_string()));
+    }
     names
-}
-
-/// Outside by the prefix's last bit alone.
-fn is_one_bit_beside(prefix: &Prefix, address: &Address) -> bool {
-    let differing = u128::from_be_bytes(prefix.bytes) ^ u128::from_be_bytes(*address);
-    differing.checked_shr(128 - prefix.length as u32) == Some(1)
 }

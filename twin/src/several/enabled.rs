@@ -1,6 +1,6 @@
 //! What enables show of their lists of prefixes, and of those of the enabled stops.
 
-use super::{Gone, Record, PLACES};
+use super::{is_one_bit_beside, Gone, Record, PLACES};
 use crate::call::kind;
 use crate::prefix::Prefix;
 use crate::prefix_list::{PrefixList, MOST_PREFIXES};
@@ -64,38 +64,30 @@ pub fn names_of(record: &Record, given: &PrefixList) -> Vec<String> {
 }
 
 fn names_of_enabled(record: &Record, given: &PrefixList) -> Vec<String> {
-    let listed = given.listed();
-    let mut stops = record.table.stops.values();
-    let of_stops = || record.table.stops.values().flat_map(|stop| stop.prefixes.listed());
-    let beside_a_stops = listed.iter().any(|one| of_stops().any(|other| are_beside(one, other)));
-    let beside_listed = listed.iter().any(|one| listed.iter().any(|other| are_beside(one, other)));
-    let none_as_another = given.count == 0 && stops.any(|stop| stop.prefixes.count == 0);
-    let reordered = |gone: &&Gone| is_reordered(given, &gone.stop.prefixes);
-    let mut reordered = record.past.gone.iter().filter(reordered).peekable();
-    let is_reordered = reordered.peek().is_some();
-    let elsewhere = reordered.any(|gone| Some(gone.index) != record.answer.link);
-    let beside_other_kind = record.past.kinds.values().any(|&kind| kind != record.kind);
+    let stops = || record.table.stops.values();
+    let is_beside = |other: &Prefix| given.listed().iter().any(|one| are_beside(one, other));
+    let is_reordered = |gone: &&Gone| is_reordered(given, &gone.stop.prefixes);
+    let reordered = || record.past.gone.iter().filter(is_reordered);
+    let besides = [
+        (given.listed().iter().any(is_beside), BESIDE_LISTED),
+        (stops().flat_map(|stop| stop.prefixes.listed()).any(is_beside), BESIDE_A_STOPS),
+        (given.count == 0 && stops().any(|stop| stop.prefixes.count == 0), NONE_AS_ANOTHER),
+        (reordered().next().is_some(), REORDERED),
+        (reordered().any(|gone| Some(gone.index) != record.answer.link), REORDERED_ELSEWHERE),
+        (record.past.kinds.values().any(|&kind| kind != record.kind), BESIDE_OTHER_KIND),
+    ];
     let mut names = vec![match record.kind {
         kind::ENABLE => format!("0 count {}", given.count),
         _ if given.count == 0 => "0 no prefix".to_string(),
         _ => "0 one prefix".to_string(),
     }];
-    let besides = [
-        (beside_listed, BESIDE_LISTED),
-        (beside_a_stops, BESIDE_A_STOPS),
-        (none_as_another, NONE_AS_ANOTHER),
-        (is_reordered, REORDERED),
-        (elsewhere, REORDERED_ELSEWHERE),
-        (beside_other_kind, BESIDE_OTHER_KIND),
-    ];
     names.extend(besides.into_iter().filter(|(seen, _)| *seen).map(|(_, name)| name.to_string()));
     names
 }
 
 /// Of one length, and different in the last bit alone.
 fn are_beside(one: &Prefix, other: &Prefix) -> bool {
-    let differing = u128::from_be_bytes(one.bytes) ^ u128::from_be_bytes(other.bytes);
-    one.length == other.length && differing.checked_shr(128 - one.length as u32) == Some(1)
+    one.length == other.length && is_one_bit_beside(one, &other.bytes)
 }
 
 fn is_reordered(given: &PrefixList, of_gone: &PrefixList) -> bool {

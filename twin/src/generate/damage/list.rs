@@ -26,7 +26,7 @@ pub fn broken(random: &mut Random, way: u64) -> BrokenRecord {
     let parts = parts(random);
     let any_length = place_of_length(random.below(MOST_PREFIXES as u64));
     match way % WAYS {
-        0 => with(parts, PLACE_OF_COUNT, number_bytes(5)),
+        0 => with_five(parts),
         1 => {
             let count = random.pick(&[6, 7, 8, 127, 128, 255]);
             with(parts, PLACE_OF_COUNT, number_bytes(count))
@@ -76,6 +76,14 @@ fn parts(random: &mut Random) -> Parts {
 fn with(mut parts: Parts, place: usize, part: Vec<u8>) -> BrokenRecord {
     parts[place] = part;
     BrokenRecord { bytes: parts.concat(), must_be_last: false }
+}
+
+/// Whole but for the count: five prefixes follow, the last of them twice.
+fn with_five(mut parts: Parts) -> BrokenRecord {
+    let (last, behind) = (place_of_length(3), place_of_length(4));
+    let again = parts[last..behind].to_vec();
+    parts.splice(behind..behind, again);
+    with(parts, PLACE_OF_COUNT, number_bytes(5))
 }
 
 fn with_no_number(random: &mut Random, parts: Parts, place: usize) -> BrokenRecord {

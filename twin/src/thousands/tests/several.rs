@@ -23,22 +23,27 @@ fn table_of_several() -> Replay {
 fn enables_refused_by_a_second_prefix() {
     let full = table_of_several();
     let new = Prefix { length: 8, bytes: [0x40, 0, 0, 0, 0, 0, 0, 0, 0, 0, 0, 0, 0, 0, 0, 0] };
-    let by_second = |index| [new, second_prefix(index)];
-    for (call, names) in [
+    let by_first = "5 by the first of thousands";
+    let elsewhere = area(9_999);
+    for (area, prefixes, names) in [
         (
-            enable_list(area(9_999), &by_second(2)),
-            &["5 by the first of thousands", "5 2nd prefix by the 2nd of the first of thousands"][..],
+            elsewhere,
+            [new, second_prefix(2)],
+            &[by_first, "5 2nd prefix by the 2nd of the first of thousands"][..],
         ),
         (
-            enable_list(area(9_999), &by_second(9)),
+            elsewhere,
+            [new, second_prefix(9)],
             &["5 by one between thousands", "5 2nd prefix by the 2nd of one between thousands"],
         ),
         (
-            enable_list(area(9_999), &by_second(4_093)),
+            elsewhere,
+            [new, second_prefix(4_093)],
             &["5 by the last of thousands", "5 2nd prefix by the 2nd of the last of thousands"],
         ),
         (
-            enable_list(area(2), &by_second(4_093)),
+            area(2),
+            [new, second_prefix(4_093)],
             &[
                 "4 by the first of thousands",
                 "4 by the first, the prefix overlaps the last's",
@@ -46,14 +51,11 @@ fn enables_refused_by_a_second_prefix() {
             ],
         ),
         // By the first place of either list.
-        (enable_list(area(9_999), &[second_prefix(2), new]), &["5 by the first of thousands"]),
-        (enable_list(area(9_999), &[new, prefix(2)]), &["5 by the first of thousands"]),
-        (
-            enable_list(area(9_999), &[prefix(2), second_prefix(2)]),
-            &["5 by the first of thousands"],
-        ),
+        (elsewhere, [second_prefix(2), new], &[by_first]),
+        (elsewhere, [new, prefix(2)], &[by_first]),
+        (elsewhere, [prefix(2), second_prefix(2)], &[by_first]),
     ] {
-        assert_eq!(seen(&full, &call), names, "{call:?}");
+        assert_eq!(seen(&full, &enable_list(area, &prefixes)), names, "{prefixes:?}");
     }
 }
 

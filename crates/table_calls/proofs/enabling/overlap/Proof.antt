@@ -1,5 +1,5 @@
 -- `table_calls::enabling::overlap` meets its contract.
-use mathlib.Core.Path.{_≡_, _∙_}
+use mathlib.Core.Path.{_≡_}
 use borrow.Author.Tests.{eq-eqb, ne-eqb}
 use Rattle.links.specs.Settings.{overlapsItself}
 use Rattle.table_calls.specs.Steps.{overlapAsked}
@@ -10,9 +10,7 @@ use Rattle.table_calls.proofs.enabling.overlap.Tie as tie
 number-is : (c : tie.After-after2) → (let args = c .before .before .before .args in
     c .after2 .result ≡ overlapAsked (args .before) (args .same) (args .s) .number)
 unfolding overlapsItself
-number-is c =
-    c .after2 .ensures
-    ∙ rw (c .before .before .after .ensures, c .before .overlap-within .ensures)
+number-is c = rw (← c .before .before .overlap-within .ensures, ← c .before .after .ensures) (c .after2 .ensures)
 
 returns : tie.Need-returns
 returns c = rw (← number-is (c .before), ne-eqb _ 0 (c .if1 .taken))
