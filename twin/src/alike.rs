@@ -31,7 +31,7 @@ const CALLERS: [Caller; 3] = [Caller::Enable, Caller::Anycast, Caller::Broadcast
 impl Caller {
     pub fn name(self) -> &'static str {
         match self {
-            Caller::Enable => "2 enable",
+            Caller::Enable => "2, 9 enable",
             Caller::Anycast => "6 anycast",
             Caller::Broadcast => "6 broadcast",
         }
@@ -117,7 +117,7 @@ fn equal_by_reply(reply: u8) -> Option<bool> {
     if reply == Refusal::AreaEqualToAStops.number() {
         return Some(true);
     }
-    let behind = [Refusal::PrefixOverlapsAStops, Refusal::NoIndexFree];
+    let behind = [Refusal::PrefixOverlapsAnother, Refusal::NoIndexFree];
     let unequal = reply == DONE || behind.iter().any(|refusal| refusal.number() == reply);
     unequal.then_some(false)
 }

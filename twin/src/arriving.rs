@@ -80,7 +80,7 @@ impl Table {
 
     fn stop_holding(&self, address: &Address) -> Option<u64> {
         let mut stops = self.stops.iter();
-        stops.find(|(_, stop)| stop.prefix.holds_address(address)).map(|(&index, _)| index)
+        stops.find(|(_, stop)| stop.prefixes.holds_address(address)).map(|(&index, _)| index)
     }
 }
 

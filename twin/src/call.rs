@@ -46,7 +46,9 @@ pub enum Call<'a> {
 /// Record kinds: the first number of each record.
 pub mod kind {
     pub const START: u64 = 1;
-    pub const ENABLE: u64 = 2;
+    /// Of an enable from before a stop could have several prefixes: read, but not
+    /// written (`record-list`).
+    pub const OLD_ENABLE: u64 = 2;
     pub const DISABLE: u64 = 3;
     pub const DGVL_AREA: u64 = 4;
     pub const OWN_MID: u64 = 5;
@@ -55,6 +57,9 @@ pub mod kind {
     /// (`record-hop`).
     pub const OLD_REQUEST: u64 = 7;
     pub const REQUEST: u64 = 8;
+    pub const ENABLE: u64 = 9;
+
+    pub const LAST: u64 = ENABLE;
 }
 
 impl Call<'_> {

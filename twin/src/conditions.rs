@@ -4,7 +4,8 @@
 //! order.
 //!
 //! An area that is not good is equal to none (`area-equal`). A prefix that is not
-//! good overlaps by its first bits, as a good one does (`prefix-overlap`).
+//! good overlaps by its first bits, as a good one does (`prefix-overlap`). No record
+//! has a count above four; of a call that has one 29 holds.
 //!
 //! A short packet lacks bytes that other conditions name. A condition holds of it
 //! only where all the bytes that its rule names are there: byte 0 for 21; bytes 4
@@ -22,7 +23,7 @@ use crate::link::{Interface, InterfaceNumbers, RETIRED_KIND};
 use crate::mid::check_mid;
 use crate::packet::{is_multicast, Address, HEADER_LENGTH, LONGEST_PACKET, LOOPBACK, UNSPECIFIED};
 use crate::replay::LENT_TO_AN_INDICATION;
-use crate::table::{StartSettings, StopSettings, Table, DGVL, FIRST_STOP, SMALLEST_MAXIMUM};
+use crate::table::{StartSettings, Stop, StopSettings, Table, DGVL, FIRST_STOP, SMALLEST_MAXIMUM};
 
 /// A reply number, and whether its condition holds.
 type Condition = (u8, bool);
@@ -54,15 +55,17 @@ fn of_start(largest_maximum: u64, settings: &StartSettings) -> Vec<Condition> {
 
 /// `enable-refusals`.
 fn of_enable(table: &Table, settings: &StopSettings) -> Vec<Condition> {
-    let StopSettings { area, prefix, interface } = settings;
+    let StopSettings { area, prefixes, interface } = settings;
     let stops = &table.stops;
+    let overlapping = |stop: &Stop| stop.prefixes.overlaps(prefixes);
     vec![
         (1, is_outside_its_lists(interface)),
         (30, interface.kind == RETIRED_KIND),
         (2, !area.is_good()),
-        (3, !prefix.is_good()),
+        (29, prefixes.count > 4),
+        (3, prefixes.listed().iter().any(|prefix| !prefix.is_good() || prefix.length == 0)),
         (4, stops.values().any(|stop| stop.area.equals(area))),
-        (5, stops.values().any(|stop| stop.prefix.overlaps(prefix))),
+        (5, prefixes.overlaps_itself() || stops.values().any(overlapping)),
         (6, (FIRST_STOP..=table.maximum).all(|index| stops.contains_key(&index))),
     ]
 }

@@ -1,6 +1,7 @@
 //! The cases of "Cases at the edges" that bear no *. They run in a program, and
 //! in an independent second one (`edge-stars`): this is the second one.
 
+mod operators;
 mod sent;
 
 use crate::area::{Area, RECTANGLE};
@@ -9,7 +10,8 @@ use crate::call::{Destination, GEO_BROADCAST, TSB};
 use crate::leaving::Request;
 use crate::link::InterfaceNumbers;
 use crate::packet::{fault_place, UNSPECIFIED};
-use crate::prefix::{Prefix, NO_PREFIX};
+use crate::prefix::Prefix;
+use crate::prefix_list::{PrefixList, NO_PREFIXES};
 use crate::reply::{Refusal, DONE};
 use crate::table::{StartSettings, StopSettings, Table, DGVL, TVL};
 
@@ -30,11 +32,12 @@ impl Case {
 }
 
 pub fn cases() -> Vec<Case> {
-    let mut cases = vec![
+    let mut cases = operators::cases();
+    cases.extend([
         second_stop_at_maximum_2(),
         broadcast_beside_the_only_stop(),
         buffer_of_packet_and_13(),
-    ];
+    ]);
     cases.extend(places_of_bad_packets());
     cases.extend(sent::cases());
     cases
@@ -43,7 +46,7 @@ pub fn cases() -> Vec<Case> {
 const LAN: InterfaceNumbers = InterfaceNumbers { kind: 1, flag: 1 };
 const STOP_AREA: Area =
     Area { shape: RECTANGLE, latitude: 0, longitude: 0, a: 500, b: 300, angle: 90 };
-const STOP: StopSettings = StopSettings { area: STOP_AREA, prefix: NO_PREFIX, interface: LAN };
+const STOP: StopSettings = StopSettings { area: STOP_AREA, prefixes: NO_PREFIXES, interface: LAN };
 
 /// A table of maximum 2 whose only stop link has STOP's settings.
 fn table_with_one_stop() -> Table {
@@ -77,13 +80,20 @@ fn number_of<T>(outcome: Result<T, Refusal>) -> u8 {
     outcome.map_or_else(Refusal::number, |_| DONE)
 }
 
+fn link_or_number(outcome: Result<u64, Refusal>) -> String {
+    match outcome {
+        Ok(link) => format!("link {link}"),
+        refused => number_of(refused).to_string(),
+    }
+}
+
 /// `edge-full`: maximum 2 and one stop link, a second with new settings gets 6.
 fn second_stop_at_maximum_2() -> Case {
     let mut bytes = [0; 16];
     bytes[0] = 0x20;
     let second = StopSettings {
         area: Area { latitude: 1_000, ..STOP_AREA },
-        prefix: Prefix { length: 8, bytes },
+        prefixes: PrefixList::of(&[Prefix { length: 8, bytes }]),
         ..STOP
     };
     let outcome = table_with_one_stop().enable(&second);
@@ -107,14 +117,10 @@ fn broadcast_beside_the_only_stop() -> Case {
         packet: &packet,
     };
     let outcome = table_with_one_stop().indication(&indication, &mut [0; 1_294]);
-    let got = match outcome {
-        Ok(delivery) => format!("link {}", delivery.link),
-        Err(refusal) => format!("reply {}", refusal.number()),
-    };
     Case {
         name: "broadcast to a rectangle with the angle one off".to_string(),
         expected: format!("link {DGVL}"),
-        got,
+        got: link_or_number(outcome.map(|delivery| delivery.link)),
     }
 }
 
@@ -181,10 +187,14 @@ fn number_and_place<T>(outcome: Result<T, Refusal>, packet: &[u8]) -> String {
 mod tests {
     use super::*;
 
+    pub fn assert_printed(cases: &[Case], lines: &[&str]) {
+        assert_eq!(cases.iter().map(Case::line).collect::<Vec<_>>(), lines);
+    }
+
     #[test]
-    fn all_thirteen_agree() {
+    fn all_twenty_agree() {
         let cases = cases();
-        assert_eq!(cases.len(), 9 + 4);
+        assert_eq!(cases.len(), 7 + 9 + 4);
         for case in cases {
             assert!(case.agrees(), "{}", case.line());
         }

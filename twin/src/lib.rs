@@ -14,6 +14,7 @@ pub mod mid;
 pub mod numbers;
 pub mod packet;
 pub mod prefix;
+pub mod prefix_list;
 pub mod reply;
 pub mod table;
 
@@ -32,4 +33,5 @@ pub mod orders;
 pub mod pairs;
 pub mod program;
 pub mod resolving;
+pub mod several;
 pub mod thousands;

@@ -21,11 +21,12 @@ type Orders = &'static [(u8, &'static [u8])];
 /// `start-refusals`: 1, 30.
 const ORDERS_OF_START: Orders = &[(1, &[30])];
 
-/// `enable-refusals`: 1, 30, 2, 3, 4, 5, 6.
+/// `enable-refusals`: 1, 30, 2, 29, 3, 4, 5, 6.
 ///
 /// 1 over 30 is the flag's: a kind outside the list is not the retired one. Missing
-/// is 2 over 4 alone, since an area that is not good is equal to none
-/// (`area-equal`). 3 over 5 is there: which prefixes overlap is asked of good and
+/// are 2 over 4, since an area that is not good is equal to none (`area-equal`), and
+/// all with 29, which holds of no record: a count above four is broken
+/// (`record-broken`). 3 over 5 is there: which prefixes overlap is asked of good and
 /// bad ones alike, by their first bits (`prefix-overlap`), so that one with a bit
 /// past its length can overlap a stop's.
 const ORDERS_OF_ENABLE: Orders = &[
@@ -123,12 +124,13 @@ pub struct Situation {
 
 /// Every situation that must be seen: the orders of a kind, then its causes.
 pub fn situations() -> Vec<Situation> {
-    let of_kinds: [(u64, Orders, &[Cause]); 5] = [
+    let of_kinds: [(u64, Orders, &[Cause]); 6] = [
         (kind::START, ORDERS_OF_START, &[]),
-        (kind::ENABLE, ORDERS_OF_ENABLE, &[]),
+        (kind::OLD_ENABLE, ORDERS_OF_ENABLE, &[]),
         (kind::INDICATION, ORDERS_OF_INDICATION, &CAUSES),
         (kind::OLD_REQUEST, ORDERS_OF_REQUEST, &CAUSES),
         (kind::REQUEST, ORDERS_OF_REQUEST, &CAUSES),
+        (kind::ENABLE, ORDERS_OF_ENABLE, &[]),
     ];
     let mut situations = Vec::new();
     for (kind, orders, causes) in of_kinds {

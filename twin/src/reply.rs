@@ -11,9 +11,11 @@ pub enum Refusal {
     /// outside its list.
     ValueOutsideItsList = 1,
     AreaNotGood = 2,
+    /// A listed prefix not good, or of length 0.
     PrefixNotGood = 3,
     AreaEqualToAStops = 4,
-    PrefixOverlapsAStops = 5,
+    /// An enabled stop link's, or another of the same call.
+    PrefixOverlapsAnother = 5,
     NoIndexFree = 6,
     NoEnabledLink = 7,
     PacketAbove1280 = 9,
@@ -35,6 +37,7 @@ pub enum Refusal {
     /// Fewer records than maximum - 1. The twin's table needs no run, and no program
     /// lists it (`dispatch-list`): it stands here to be complete.
     RunTooShort = 23,
+    TooManyPrefixes = 29,
     /// Kind 2, NBMA.
     RetiredKind = 30,
 }
@@ -47,12 +50,12 @@ impl Refusal {
 
 /// Every refusal, in the order of the numbers.
 #[cfg(test)]
-pub const EVERY_REFUSAL: [Refusal; 20] = [
+pub const EVERY_REFUSAL: [Refusal; 21] = [
     Refusal::ValueOutsideItsList,
     Refusal::AreaNotGood,
     Refusal::PrefixNotGood,
     Refusal::AreaEqualToAStops,
-    Refusal::PrefixOverlapsAStops,
+    Refusal::PrefixOverlapsAnother,
     Refusal::NoIndexFree,
     Refusal::NoEnabledLink,
     Refusal::PacketAbove1280,
@@ -67,6 +70,7 @@ pub const EVERY_REFUSAL: [Refusal; 20] = [
     Refusal::VersionNot6,
     Refusal::LengthFieldWrong,
     Refusal::RunTooShort,
+    Refusal::TooManyPrefixes,
     Refusal::RetiredKind,
 ];
 
@@ -77,7 +81,7 @@ mod tests {
     #[test]
     fn the_numbers_of_the_rules() {
         let numbers = EVERY_REFUSAL.map(Refusal::number);
-        let expected = [1, 2, 3, 4, 5, 6, 7, 9, 10, 11, 12, 13, 14, 15, 16, 20, 21, 22, 23, 30];
+        let expected = [1, 2, 3, 4, 5, 6, 7, 9, 10, 11, 12, 13, 14, 15, 16, 20, 21, 22, 23, 29, 30];
         assert_eq!(numbers, expected);
     }
 }

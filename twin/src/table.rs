@@ -7,7 +7,7 @@ use crate::area::Area;
 use crate::link::{Interface, InterfaceNumbers, Kind};
 use crate::mid::{check_mid, link_local_address};
 use crate::packet::Address;
-use crate::prefix::Prefix;
+use crate::prefix_list::PrefixList;
 use crate::reply::Refusal;
 
 /// `link-fixed`.
@@ -34,7 +34,7 @@ pub struct StartSettings {
 #[derive(Clone, Copy, Debug, PartialEq, Eq)]
 pub struct StopSettings {
     pub area: Area,
-    pub prefix: Prefix,
+    pub prefixes: PrefixList,
     pub interface: InterfaceNumbers,
 }
 
@@ -42,7 +42,8 @@ pub struct StopSettings {
 #[derive(Clone, Copy, Debug, PartialEq, Eq)]
 pub struct Stop {
     pub area: Area,
-    pub prefix: Prefix,
+    /// With blank places past the count (`prefix-kept`).
+    pub prefixes: PrefixList,
     pub interface: Interface,
 }
 
@@ -97,26 +98,31 @@ impl Table {
         Table { own_mid, maximum, tvl, dgvl, dgvl_area: None, stops: BTreeMap::new() }
     }
 
-    /// `enable-refusals`: 1, 30, 2, 3, 4, 5, 6. The answer is the new link's index.
+    /// `enable-refusals`: 1, 30, 2, 29, 3, 4, 5, 6. The answer is the new link's
+    /// index.
     pub fn enable(&mut self, settings: &StopSettings) -> Result<u64, Refusal> {
         let interface = settings.interface.check()?;
         interface.check_not_retired()?;
         if !settings.area.is_good() {
             return Err(Refusal::AreaNotGood);
         }
-        if !settings.prefix.is_good() {
+        if settings.prefixes.is_too_long() {
+            return Err(Refusal::TooManyPrefixes);
+        }
+        if !settings.prefixes.is_good() {
             return Err(Refusal::PrefixNotGood);
         }
         // Only enabled stop links are asked, not the DGVL (`link-apart`).
         if self.stops.values().any(|stop| stop.area.equals(&settings.area)) {
             return Err(Refusal::AreaEqualToAStops);
         }
-        if self.stops.values().any(|stop| stop.prefix.overlaps(&settings.prefix)) {
-            return Err(Refusal::PrefixOverlapsAStops);
+        let overlap = |stop: &Stop| stop.prefixes.overlaps(&settings.prefixes);
+        if settings.prefixes.overlaps_itself() || self.stops.values().any(overlap) {
+            return Err(Refusal::PrefixOverlapsAnother);
         }
         let index = self.lowest_unused_index().ok_or(Refusal::NoIndexFree)?;
-        let stop = Stop { area: settings.area, prefix: settings.prefix, interface };
-        self.stops.insert(index, stop);
+        let prefixes = settings.prefixes.kept();
+        self.stops.insert(index, Stop { area: settings.area, prefixes, interface });
         Ok(index)
     }
 

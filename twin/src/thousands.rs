@@ -15,6 +15,7 @@ use crate::limits::DISPATCHLIST;
 use crate::listing::Line;
 use crate::packet::Address;
 use crate::prefix::Prefix;
+use crate::prefix_list::PrefixList;
 use crate::replay::{for_each_call, Answer, Replay};
 use crate::table::{
     StartSettings, Stop, Table, DGVL, FIRST_STOP, LARGEST_MAXIMUM_OVER_A_RUN, SMALLEST_MAXIMUM,
@@ -101,10 +102,10 @@ impl Record<'_> {
         }
     }
 
-    /// That of an enable.
-    fn prefix(&self) -> Option<Prefix> {
+    /// Those of an enable.
+    fn prefixes(&self) -> Option<PrefixList> {
         match self.call {
-            Call::Enable(settings) => Some(settings.prefix),
+            Call::Enable(settings) => Some(settings.prefixes),
             _ => None,
         }
     }
@@ -117,13 +118,28 @@ impl Record<'_> {
         self.place_of(*index)
     }
 
-    /// The place of the only stop whose prefix overlaps the one given.
-    fn place_of_prefix(&self) -> Option<Place> {
-        let prefix = self.prefix()?;
+    /// The only stop that a prefix given overlaps, and its index.
+    fn stop_overlapped(&self) -> Option<(u64, &Stop)> {
+        let prefixes = self.prefixes()?;
         let stops = self.thousands()?.stops.iter();
-        let mut overlapping = stops.filter(|(_, stop)| stop.prefix.overlaps(&prefix));
-        let (index, _) = overlapping.next()?;
-        overlapping.next().map_or(self.place_of(*index), |_| None)
+        let mut overlapping = stops.filter(|(_, stop)| stop.prefixes.overlaps(&prefixes));
+        let (index, stop) = overlapping.next()?;
+        overlapping.next().map_or(Some((*index, stop)), |_| None)
+    }
+
+    /// The place of the only stop that a prefix given overlaps.
+    fn place_of_prefix(&self) -> Option<Place> {
+        self.place_of(self.stop_overlapped()?.0)
+    }
+
+    /// The place of the only stop that a prefix given overlaps, where the second one
+    /// overlaps its second, and the first one overlaps nothing.
+    fn place_of_second(&self) -> Option<Place> {
+        let (prefixes, (index, stop)) = (self.prefixes()?, self.stop_overlapped()?);
+        let first = PrefixList::of(&prefixes.listed()[..1]);
+        let by_second = second(&prefixes)?.overlaps(second(&stop.prefixes)?);
+        let place = self.place_of(index).filter(|_| by_second);
+        place.filter(|_| !stop.prefixes.overlaps(&first))
     }
 
     /// The places of the stops whose prefixes hold the packet's destination and source,
@@ -132,7 +148,7 @@ impl Record<'_> {
         let table = self.thousands()?;
         let place_of = |address: &Address| {
             let mut stops = table.stops.iter();
-            let (index, _) = stops.find(|(_, stop)| stop.prefix.holds_address(address))?;
+            let (index, _) = stops.find(|(_, stop)| stop.prefixes.holds_address(address))?;
             self.place_of(*index)
         };
         let [to, source] = self.addresses()?;
@@ -153,6 +169,16 @@ impl Record<'_> {
     /// By destination, by source, or by neither.
     fn goes_by(&self, destination: Option<Place>, source: Option<Place>) -> bool {
         self.places_of_addresses() == Some([destination, source])
+    }
+
+    /// Whether the stop that it goes to holds an address by its second prefix: the
+    /// destination is at 0, the source at 1.
+    fn is_held_by_second(&self, place: usize) -> bool {
+        let stop = self.thousands().zip(self.answer.link);
+        let stop = stop.and_then(|(table, link)| table.stops.get(&link));
+        let second = stop.and_then(|stop| second(&stop.prefixes));
+        let held = second.zip(self.addresses());
+        held.is_some_and(|(second, addresses)| second.holds_address(&addresses[place]))
     }
 
     /// Whether what arrives for an area goes to a stop at this place, or to none.
@@ -192,15 +218,15 @@ impl Record<'_> {
     }
 
     fn has_prefix_of_a_disabled(&self) -> bool {
-        let Some(prefix) = self.prefix() else { return false };
-        self.is_of_a_disabled(|stop| stop.prefix.overlaps(&prefix))
+        let Some(prefixes) = self.prefixes() else { return false };
+        self.is_of_a_disabled(|stop| stop.prefixes.overlaps(&prefixes))
     }
 
     /// The destination is at 0, the source at 1.
     fn has_address_of_a_disabled(&self, place: usize) -> bool {
         let Some(addresses) = self.addresses() else { return false };
         self.answer.link == Some(DGVL)
-            && self.is_of_a_disabled(|stop| stop.prefix.holds_address(&addresses[place]))
+            && self.is_of_a_disabled(|stop| stop.prefixes.holds_address(&addresses[place]))
     }
 
     /// Whether the index without its bits from this one on is that of an enabled stop.
@@ -216,6 +242,10 @@ impl Record<'_> {
             _ => 0,
         }
     }
+}
+
+fn second(list: &PrefixList) -> Option<&Prefix> {
+    list.listed().get(1)
 }
 
 /// How often each situation was seen, in records and in days.

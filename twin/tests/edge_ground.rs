@@ -7,7 +7,7 @@ use twin::leaving::Request;
 use twin::limits::DAYLIST;
 use twin::link::InterfaceNumbers;
 use twin::packet::UNSPECIFIED;
-use twin::prefix::NO_PREFIX;
+use twin::prefix_list::NO_PREFIXES;
 use twin::reply::Refusal;
 use twin::requests;
 use twin::table::{StartSettings, StopSettings, Table, DGVL, FIRST_STOP};
@@ -80,7 +80,7 @@ fn unequal_pairs() -> Vec<(Area, Area)> {
 }
 
 fn stop(area: Area) -> StopSettings {
-    StopSettings { area, prefix: NO_PREFIX, interface: LAN }
+    StopSettings { area, prefixes: NO_PREFIXES, interface: LAN }
 }
 
 fn table_with_stop(area: Area) -> Table {

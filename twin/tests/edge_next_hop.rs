@@ -8,7 +8,7 @@ use twin::link::InterfaceNumbers;
 use twin::listing::listing;
 use twin::mid::link_local_address;
 use twin::packet::{Address, LOOPBACK, UNSPECIFIED};
-use twin::prefix::NO_PREFIX;
+use twin::prefix_list::NO_PREFIXES;
 use twin::reply::Refusal::{self, NeighbourNotResolvable};
 use twin::table::{StartSettings, StopSettings, Table, FIRST_STOP};
 
@@ -43,7 +43,7 @@ fn sent(
 ) -> Result<Sending, Refusal> {
     let mut table = Table::start(&START).1;
     let interface = InterfaceNumbers { flag, ..LAN };
-    table.enable(&StopSettings { area: AREA, prefix: NO_PREFIX, interface }).unwrap();
+    table.enable(&StopSettings { area: AREA, prefixes: NO_PREFIXES, interface }).unwrap();
     let packet = &packet(to);
     table.request(&Request { index: FIRST_STOP, class: 3, neighbour, next_hop, packet })
 }

@@ -1,6 +1,7 @@
 //! Properties over generated day files.
 
-use twin::call::Call;
+use twin::call::{kind, Call};
+use twin::generate::enables::old_enable_pieces;
 use twin::generate::random::Random;
 use twin::generate::requests::old_request_pieces;
 use twin::generate::themes;
@@ -9,10 +10,11 @@ use twin::leaving::Request;
 use twin::limits::DAYLIST;
 use twin::link::Kind;
 use twin::listing::{lines, listing, print};
+use twin::prefix::Prefix;
 use twin::read::read_record;
 use twin::replay::{for_each_call, Replay};
 use twin::reply::Refusal;
-use twin::table::Table;
+use twin::table::{StopSettings, Table};
 use twin::write::{joined, record_bytes, write_record};
 
 /// Every whole record of these bytes with its offset and end.
@@ -25,8 +27,8 @@ fn for_each_record(bytes: &[u8], mut look: impl FnMut(usize, usize)) -> usize {
     offset
 }
 
-/// Kind 7 aside, which is read alone (`record-hop`): there the record is the one that
-/// is written but for its kind and its next hop.
+/// Kinds 2 and 7 aside, which are read alone (`record-list`, `record-hop`): there the
+/// record is the one that is written but for its kind and its count or next hop.
 #[test]
 fn written_records_read_back_and_are_the_only_form() {
     for number in 0..200 {
@@ -37,6 +39,9 @@ fn written_records_read_back_and_are_the_only_form() {
             let form = match call {
                 Call::Request(request) if bytes[offset] == 7 => {
                     joined(&old_request_pieces(&request))
+                }
+                Call::Enable(settings) if bytes[offset] == 2 => {
+                    joined(&old_enable_pieces(&settings))
                 }
                 _ => written.clone(),
             };
@@ -91,14 +96,16 @@ fn tables_keep_what_the_rules_say_of_them() {
             let Some(table) = replay.table() else { return };
             let stops: Vec<_> = table.stops.values().collect();
             assert!(table.stops.keys().all(|index| (2..=table.maximum).contains(index)));
-            assert!(stops.iter().all(|stop| stop.area.is_good() && stop.prefix.is_good()));
+            assert!(stops.iter().all(|stop| stop.area.is_good() && stop.prefixes.is_good()));
+            assert!(stops.iter().all(|stop| stop.prefixes == stop.prefixes.kept()), "prefix-kept");
+            assert!(stops.iter().all(|stop| !stop.prefixes.overlaps_itself()));
             let of_stops = stops.iter().map(|stop| stop.interface);
             let mut links = of_stops.chain([table.tvl, table.dgvl]);
             assert!(links.all(|link| link.kind != Kind::Nbma), "kind-retired");
             for (place, stop) in stops.iter().enumerate() {
                 for other in &stops[place + 1..] {
                     assert!(!stop.area.equals(&other.area));
-                    assert!(!stop.prefix.overlaps(&other.prefix));
+                    assert!(!stop.prefixes.overlaps(&other.prefixes));
                 }
             }
         });
@@ -135,6 +142,64 @@ fn requests_of_kind_7_answer_as_before_there_were_next_hops() {
         });
     }
     assert!(done > 100 && refused > 100, "{done} done, {refused} refused");
+}
+
+/// The rule from before a stop could have several prefixes, of a table in which none has.
+fn old_reply(table: &Table, settings: &StopSettings, prefix: &Prefix) -> u8 {
+    let refusals = [
+        (2, !settings.area.is_good()),
+        (3, !prefix.is_good()),
+        (4, table.stops.values().any(|stop| stop.area.equals(&settings.area))),
+        (5, table.stops.values().any(|stop| stop.prefixes.places[0].overlaps(prefix))),
+        (6, table.stops.len() as u64 == table.maximum - 1),
+    ];
+    refusals.into_iter().find(|(_, holds)| *holds).map_or(0, |(reply, _)| reply)
+}
+
+/// `record-list`: an enable of kind 2 answers as it did. A day is asked up to the first
+/// stop with several prefixes.
+#[test]
+fn enables_of_kind_2_answer_as_before_there_were_several_prefixes() {
+    let mut seen = [0; 7];
+    for number in 0..200 {
+        for_each_call(DAYLIST, &day_file(19, number), |replay, kind, call| {
+            let (Some(table), kind::OLD_ENABLE, Call::Enable(settings)) =
+                (replay.table(), kind, call)
+            else {
+                return;
+            };
+            let several = table.stops.values().any(|stop| stop.prefixes.count > 1);
+            let interface = settings.interface;
+            if several || ![1, 3].contains(&interface.kind) || interface.flag > 1 {
+                return;
+            }
+            let reply = replay.clone().call(call).reply;
+            assert_eq!(reply, old_reply(table, settings, &settings.prefixes.places[0]));
+            seen[usize::from(reply)] += 1;
+        });
+    }
+    assert!([0, 2, 3, 4, 5, 6].iter().all(|&reply| seen[reply] > 10), "{seen:?}");
+}
+
+/// `prefix-list`, `writer-back`: what stands in the places past the count changes neither
+/// the record nor the answer nor the table.
+#[test]
+fn places_past_the_count_are_not_looked_at() {
+    let mut random = Random::new(20);
+    for number in 0..60 {
+        for_each_call(DAYLIST, &day_file(20, number), |replay, _, call| {
+            let Call::Enable(settings) = call else { return };
+            let mut filled = *settings;
+            for place in &mut filled.prefixes.places[usize::from(settings.prefixes.count)..] {
+                *place = Prefix { length: random.below(300), bytes: random.bytes() };
+            }
+            let filled = Call::Enable(filled);
+            assert_eq!(record_bytes(&filled), record_bytes(call));
+            let (mut one, mut other) = (replay.clone(), replay.clone());
+            assert_eq!(one.call(&filled), other.call(call));
+            assert_eq!(one, other);
+        });
+    }
 }
 
 #[test]

@@ -1,6 +1,6 @@
 //! What the generated day files reach: every allowed pair, every order of
-//! refusals and cause of one, every way in which areas are alike, and the
-//! situations within a pair that a listing could get wrong.
+//! refusals and cause of one, every way in which areas are alike, all that several
+//! prefixes show, and the situations within a pair that a listing could get wrong.
 
 use std::collections::BTreeMap;
 
@@ -18,6 +18,7 @@ use twin::pairs::{allowed_pairs, Seen};
 use twin::read::{kind_of_record, read_record};
 use twin::replay::{Answer, Replay};
 use twin::reply::Refusal;
+use twin::several;
 use twin::table::{StartSettings, Table};
 
 const FILES: u64 = 300;
@@ -63,7 +64,10 @@ impl Situations {
             }
             Call::Enable(_) if answer.reply == 6 => self.add(format!("full {}", table.maximum)),
             Call::Enable(settings) if answer.reply == 0 => {
-                self.add(format!("prefix length {}", settings.prefix.length));
+                for prefix in settings.prefixes.listed() {
+                    self.add(format!("prefix length {}", prefix.length));
+                    self.add(format!("kind {kind}: prefix length {}", prefix.length));
+                }
                 let gap = table.stops.keys().any(|&index| Some(index) > answer.link);
                 self.add(if gap { "enabled within a gap" } else { "enabled behind all" });
                 let of_dgvl = table.dgvl_area.is_some_and(|area| area.equals(&settings.area));
@@ -87,7 +91,7 @@ impl Situations {
         }
         let holds = |place: usize| {
             let address = indication.packet[place..place + 16].try_into().unwrap();
-            table.stops.values().any(|stop| stop.prefix.holds_address(&address))
+            table.stops.values().any(|stop| stop.prefixes.holds_address(&address))
         };
         self.add(format!("destination held {}, source held {}", holds(24), holds(8)));
     }
@@ -142,7 +146,11 @@ fn wanted() -> Vec<String> {
     }
     wanted.extend(VALUES_OF_START.map(|name| format!("start 1, kind 2 beside {name}")));
     wanted.extend([2, 3, 4, 5, 65].map(|maximum| format!("full {maximum}")));
-    wanted.extend((0..=128).map(|length| format!("prefix length {length}")));
+    wanted.extend((1..=128).map(|length| format!("prefix length {length}")));
+    for kind in [kind::OLD_ENABLE, kind::ENABLE] {
+        let around_bytes = [1, 7, 8, 9, 15, 16, 17, 63, 64, 65, 120, 121, 127, 128];
+        wanted.extend(around_bytes.map(|length| format!("kind {kind}: prefix length {length}")));
+    }
     for transport in 1..TSB {
         wanted.extend([1, 2].map(|on| format!("indication {transport} on {on}")));
     }
@@ -228,6 +236,21 @@ fn the_files_reach_every_way_in_which_areas_are_alike() {
         for row in counts.rows() {
             let (caller, name) = (row.caller.name(), row.way.name());
             assert!(row.count > 0, "seed {seed}, {caller}: {name}");
+        }
+    }
+}
+
+/// As many as must be listed for each way in which a list can be broken.
+#[test]
+fn the_files_reach_all_that_several_prefixes_show() {
+    for seed in [1, 2, 3, 7, 42, u64::MAX] {
+        let mut counts = several::Counts::default();
+        for number in 0..7 * FILES_OF_A_ROUND {
+            let day = day_file(seed, number);
+            counts.add(DAYLIST, &day, &lines(DAYLIST, &day));
+        }
+        for (kind, name, count) in counts.rows() {
+            assert!(count > 0, "seed {seed}, kind {kind}: {name}");
         }
     }
 }

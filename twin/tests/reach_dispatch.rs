@@ -12,6 +12,7 @@ use twin::orders;
 use twin::pairs::{allowed_pairs, Seen};
 use twin::replay::for_each_call;
 use twin::resolving;
+use twin::several;
 use twin::thousands::{self, both_take};
 
 /// In one test, since to list thousands of stops takes its time.
@@ -39,21 +40,25 @@ fn its_own_files_reach_every_allowed_pair_and_all_that_thousands_of_stops_show()
 
 /// The large days are left out: they would take long, and are not made for this.
 #[test]
-fn the_files_reach_every_order_next_hop_and_likeness() {
+fn the_files_reach_every_order_next_hop_likeness_and_list() {
     for seed in [1, 7, u64::MAX] {
         let mut orders = orders::Counts::default();
         let mut next_hops = resolving::Counts::default();
         let mut likenesses = alike::Counts::default();
+        let mut several = several::Counts::default();
         for number in LARGE..Subject::Dispatchlist.files() {
             let day = day_file(seed, number);
             orders.add(DISPATCHLIST, &day);
             next_hops.add(DISPATCHLIST, &day);
-            likenesses.add(DISPATCHLIST, &day, &lines(DISPATCHLIST, &day));
+            let lines = lines(DISPATCHLIST, &day);
+            likenesses.add(DISPATCHLIST, &day, &lines);
+            several.add(DISPATCHLIST, &day, &lines);
         }
         let orders = orders.rows().iter().map(|(one, count)| (one.name(), *count));
         let next_hops = next_hops.rows().iter().map(|(one, count)| (one.name(), *count));
         let likenesses = likenesses.rows().iter().map(|row| (row.way.name(), row.count));
-        for (name, count) in orders.chain(next_hops).chain(likenesses) {
+        let several = several.rows().into_iter().map(|(_, name, count)| (name.to_string(), count));
+        for (name, count) in orders.chain(next_hops).chain(likenesses).chain(several) {
             assert!(count > 0, "seed {seed}: {name}");
         }
     }

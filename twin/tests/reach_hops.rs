@@ -145,7 +145,7 @@ fn broken_by(record: &[u8]) -> Option<String> {
         8 if behind == Some(0) => Some("no next hop".to_string()),
         8 if behind < Some(16) => behind.map(|_| "next hop cut".to_string()),
         8 if behind == Some(16) => Some("nothing behind the next hop".to_string()),
-        kind @ (0 | 9) if read_record(&as_request, 0).is_ok() => Some(format!("kind {kind}")),
+        kind @ (0 | 10) if read_record(&as_request, 0).is_ok() => Some(format!("kind {kind}")),
         _ => None,
     }
 }
@@ -161,7 +161,7 @@ fn records_that_are_broken_by_their_next_hop_or_kind() {
             let broken = last.filter(|answer| answer.reply == 14);
             seen.extend(broken.and_then(|answer| broken_by(&read[answer.length..])));
         }
-        let kinds = ["kind 0", "kind 9"];
+        let kinds = ["kind 0", "kind 10"];
         let hops = ["next hop cut", "no next hop", "nothing behind the next hop"];
         assert_eq!(seen, kinds.iter().chain(&hops).map(|one| one.to_string()).collect());
     }

@@ -9,6 +9,8 @@ use links::PerhapsLink;
 use links::Settings;
 use links::StartValues;
 use links::Table;
+use prefix::Prefix;
+use prefixes::Prefixes;
 use traffic::Destination;
 use traffic::IndicationHead;
 use traffic::RequestHead;
@@ -36,28 +38,30 @@ fn plain() -> Interface {
     }
 }
 
-fn settings(area: Area, interface: Interface, len: u8, first: u8) -> Settings {
-    let mut bytes = [0u8; 16];
-    bytes[0] = first;
+fn settings(area: Area, interface: Interface, prefixes: Prefixes) -> Settings {
     Settings {
         area: area,
         interface: interface,
-        prefix: prefix::of_bytes(len, &bytes),
+        prefixes: prefixes,
     }
 }
 
-// Maximum 2, and its only stop link enabled, with this interface.
-fn with_stop(interface: Interface) -> Table {
+// A table with this stop link alone.
+fn only_stop(max: usize, stop: Settings) -> Table {
     let start = value_table::start(StartValues {
         own: 1,
-        max: 2,
+        max: max,
         tvl: plain(),
         dgvl: plain(),
     });
     let fresh = start.table;
-    let stop = settings(rectangle(0, 90), interface, 0, 0);
     let reply = value_table::enable(fresh, stop);
     reply.table
+}
+
+// Maximum 2, and its only stop link enabled, with this interface.
+fn with_stop(interface: Interface) -> Table {
+    only_stop(2, settings(rectangle(0, 90), interface, prefixes::none()))
 }
 
 fn with_one_stop() -> Table {
@@ -78,7 +82,10 @@ fn packet() -> [u8; 40] {
 }
 
 fn second_stop() {
-    let second = settings(rectangle(1_000, 90), plain(), 8, 0x20);
+    let mut bytes = [0u8; 16];
+    bytes[0] = 0x20;
+    let list = prefixes::single(prefix::of_bytes(8, &bytes));
+    let second = settings(rectangle(1_000, 90), plain(), list);
     let reply = value_table::enable(with_one_stop(), second);
     print(b"second stop link at maximum 2: expected 6 got ");
     io::print_decimal(STDOUT_FILENO, reply.number as u64);
@@ -323,7 +330,102 @@ fn show_next_hops() {
     );
 }
 
+// edge-operators. 2001:db8:N::/48, and 2001:db8:N:1::/64 inside it.
+fn operator(n: u8) -> Prefix {
+    let mut bytes = in_internet(0);
+    bytes[5] = n;
+    prefix::of_bytes(48, &bytes)
+}
+
+fn inside_operator(n: u8) -> Prefix {
+    let mut bytes = in_internet(0);
+    bytes[5] = n;
+    bytes[7] = 1;
+    prefix::of_bytes(64, &bytes)
+}
+
+fn two_prefixes(a: Prefix, b: Prefix) -> Prefixes {
+    prefixes::of_four(2, a, b, prefix::none(), prefix::none())
+}
+
+// The mast of two operators, which is link 2.
+fn with_two_operators() -> Table {
+    let list = two_prefixes(operator(0x0a), operator(0x0b));
+    only_stop(65, settings(rectangle(0, 90), plain(), list))
+}
+
+// 40 bytes from 2001:db8:N::1 to 2001:db8:M::1. With 0 it is an address of nobody.
+fn between(source: u8, destination: u8) -> [u8; 40] {
+    let mut bytes = to_film_server();
+    bytes[8] = 0x20;
+    bytes[9] = 0x01;
+    bytes[10] = 0x0d;
+    bytes[11] = 0xb8;
+    bytes[13] = source;
+    bytes[29] = destination;
+    bytes[39] = 1;
+    bytes
+}
+
+fn unicast_on_the_mast(expected: &[u8], packet: &[u8]) {
+    let h = from_two(traffic::GEO_UNICAST, Destination::Mid(1));
+    let mut buffer = [0u8; 1294];
+    let reply = value_traffic::indication(with_two_operators(), h, packet, &mut buffer);
+    print(expected);
+    print(b" got ");
+    let link = reply.link;
+    print_link(link, reply.number);
+    print(b"\n");
+}
+
+fn second_mast(expected: &[u8], list: Prefixes) {
+    let second = settings(rectangle(1_000, 90), plain(), list);
+    let reply = value_table::enable(with_two_operators(), second);
+    print(expected);
+    print(b" got ");
+    if reply.number != 0 {
+        print_number(b"", reply.number as u64);
+    } else {
+        let link = reply.link;
+        print_link(link, reply.number);
+    }
+    print(b"\n");
+}
+
+fn operators_on_a_mast() {
+    unicast_on_the_mast(
+        b"indication to the first operator: expected link 2",
+        &between(0, 0x0a),
+    );
+    unicast_on_the_mast(
+        b"indication to the second operator: expected link 2",
+        &between(0, 0x0b),
+    );
+    unicast_on_the_mast(
+        b"indication from the second operator: expected link 2",
+        &between(0x0b, 0),
+    );
+    let own = operator(0x0c);
+    second_mast(
+        b"second mast with a prefix inside the second operator's: expected 5",
+        two_prefixes(own, inside_operator(0x0b)),
+    );
+    second_mast(
+        b"second mast with its own prefix twice: expected 5",
+        two_prefixes(own, own),
+    );
+    second_mast(
+        b"second mast with five prefixes: expected 29",
+        prefixes::of_four(5, own, operator(0x0d), operator(0x0e), operator(0x0f)),
+    );
+    second_mast(
+        b"second mast without a prefix: expected link 3",
+        prefixes::none(),
+    );
+}
+
 fn main() {
+    operators_on_a_mast();
     second_stop();
     broadcast_beside_the_stop();
     buffer_of_packet_and_13();

@@ -1,5 +1,5 @@
--- What walks by hand over a lent run share: of these only Near says something of a record, how many bytes it takes, and Sorts names the
--- types that calls on a run take and give. Finds and Clears are what this crate's two loops keep.
+-- What walks by hand over a lent run share: of these only Near and Reads say something of a record, how many bytes it takes and how it
+-- is read, and Sorts names the types that calls on a run take and give. Finds and Clears are what this crate's two loops keep.
 pub mod Near
 pub mod Past
 pub mod Tests
@@ -15,6 +15,8 @@ pub mod Passed
 pub mod Walk
 pub mod Retakes
 pub mod Locals
+pub mod Reads
 pub mod Bytes
 pub mod Finds
+pub mod Overlaps
 pub mod Clears

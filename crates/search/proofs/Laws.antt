@@ -1,3 +1,4 @@
 -- The laws of a search.
 pub mod Asked
 pub mod Found
+pub mod Overlaps

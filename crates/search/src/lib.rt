@@ -96,15 +96,15 @@ pub fn may_be_wanted(x: Slot, sort: u8, n: Area, p: Prefix) -> bool
     ensures { λ r. ⌜ r ≡ mayFit (question sort n p) x ⌝ }
 {
     let r = x.settings;
-    let on = x.enabled;
+    let enabled = x.enabled;
     if sort == OVERLAPPING {
-        return on && prefixes::may_meet(r.prefixes, p);
+        return enabled && prefixes::may_meet(r.prefixes, p);
     }
     if sort == SAME_GROUND {
         let a = r.area;
-        return on & (a.latitude == n.latitude);
+        return enabled & (a.latitude == n.latitude);
     }
-    !on
+    !enabled
 }
 
 // Whether a slot passes the question as it is asked: an area is compared as a normal form.

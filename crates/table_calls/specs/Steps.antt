@@ -49,11 +49,13 @@ noLink = record { index = dgvlIndex; kind = 0 }
 abbrev pub groundAsked : ℕ → ℕ → Settings → Inquiry
 groundAsked max records s = asking (refusal (enableRules max records s)) (max - 1) (SameGround (s .area)) noLink
 
--- 4, and 5 within the call; a call that is refused asks among none
+-- its prefixes are asked for among so many slots; among none where it is refused
+abbrev pub prefixAsking : ℕ → ℕ → PrefixInquiry
+prefixAsking n count = record { number = n; count = cond (eqb n 0) count 0 }
+
+-- behind 4, and 5 within the call
 abbrev pub overlapAsked : Inquiry → Found → Settings → PrefixInquiry
-overlapAsked i same s =
-    let n = after (after (i .number) 4 (same .any)) 5 (overlapsItself s) in
-    record { number = n; count = cond (eqb n 0) (i .count) 0 }
+overlapAsked i same s = prefixAsking (after (after (i .number) 4 (same .any)) 5 (overlapsItself s)) (i .count)
 
 abbrev pub unusedAsked : PrefixInquiry → Bool → Inquiry
 unusedAsked i overlapping = asking (after (i .number) 5 overlapping) (i .count) Unused noLink

@@ -69,12 +69,10 @@ pub struct PrefixInquiry {
 pub fn overlap(before: Inquiry, same: Found, s: Settings) -> PrefixInquiry
     ensures { λ r. ⌜ r ≡ overlapAsked before same s ⌝ }
 {
-    let in_use = inquiry::after(before.number, replies::AREA_IN_USE, same.any);
-    let number = inquiry::after(
-        in_use,
-        replies::PREFIX_OVERLAPS,
-        prefixes::overlap_within(s.prefixes),
-    );
+    let within = prefixes::overlap_within(s.prefixes);
+    let in_use = same.any;
+    let by_area = inquiry::after(before.number, replies::AREA_IN_USE, in_use);
+    let number = inquiry::after(by_area, replies::PREFIX_OVERLAPS, within);
     if number != replies::DONE {
         return PrefixInquiry {
             number: number,
@@ -82,7 +80,7 @@ pub fn overlap(before: Inquiry, same: Found, s: Settings) -> PrefixInquiry
         };
     }
     PrefixInquiry {
-        number: replies::DONE,
+        number: number,
         count: before.count,
     }
 }
@@ -121,9 +119,10 @@ pub fn change(before: Inquiry, lowest: Found, records: usize, s: Settings) -> Sl
     }
     let link = lowest.link;
     let index = link.index;
+    let kept = stored(s);
     let slot = Slot {
         enabled: true,
-        settings: stored(s),
+        settings: kept,
     };
     SlotChange {
         number: replies::DONE,

@@ -12,7 +12,7 @@ use search::Wanted;
 ghost use mathlib.Core.Path.{_≡_};
 ghost use Prim.Native.Nat.{_-_, _≤_, min};
 ghost use Rattle.links.specs.Slots.{indexAt, counted, slotAt, any, with};
-ghost use Rattle.prefixes.specs.Prefixes.{overlapping};
+ghost use Rattle.prefixes.specs.Prefixes.{overlapping, listedAt};
 ghost use Rattle.search.specs.Search.{passes};
 ghost use Rattle.value_slots.specs.Search.{found, slotPlace, placeIn, slotFrom};
 
@@ -87,21 +87,25 @@ pub fn find(t: Table, wanted: Wanted) -> Found
     }
 }
 
+// Whether an enabled link has a prefix that overlaps the one listed at a place.
+fn overlaps_listed(t: Table, s: Prefixes, k: u8) -> bool
+    ensures { λ r. ⌜ r ≡ any (passes (Wanted.Overlapping (listedAt s k))) (counted t) ⌝ }
+{
+    if s.count <= k {
+        return false;
+    }
+    let found = find(t, Wanted::Overlapping(prefixes::at(s, k)));
+    found.any
+}
+
 // Whether an enabled link has a prefix that overlaps one of these.
 pub fn overlapping(t: Table, s: Prefixes) -> bool
     ensures { λ r. ⌜ r ≡ any (with (λ x. overlapping (x .prefixes) s)) (counted t) ⌝ }
 {
-    if s.count == 0 {
-        return false;
-    }
-    let first = find(t, Wanted::Overlapping(prefixes::at(s, 0)));
-    if first.any | (s.count == 1) {
-        return first.any;
-    }
-    let second = find(t, Wanted::Overlapping(prefixes::at(s, 1)));
-    let third = find(t, Wanted::Overlapping(prefixes::at(s, 2)));
-    let fourth = find(t, Wanted::Overlapping(prefixes::at(s, 3)));
-    second.any | third.any | fourth.any
+    overlaps_listed(t, s, 0)
+        | overlaps_listed(t, s, 1)
+        | overlaps_listed(t, s, 2)
+        | overlaps_listed(t, s, 3)
 }
 
 // Where the slot of a link stands; the first place for a fixed link and past the last slot, which have none.

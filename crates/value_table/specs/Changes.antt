@@ -11,6 +11,7 @@ use Rattle.links.specs.declared.Reply.{Reply}
 use Rattle.links.specs.declared.Settings.{Settings}
 use Rattle.links.specs.declared.Slot.{Slot}
 use Rattle.links.specs.declared.Table.{Table}
+use Rattle.links.specs.Settings.{stored}
 use Rattle.links.specs.Slots.{indexAt, placeOf, free, inUse, counted, place, unused}
 use Rattle.links.specs.Calls.{enable, disable, setOwn, rules}
 use Rattle.table_calls.specs.declared.SlotChange.{SlotChange}
@@ -35,7 +36,7 @@ changeOr (suc n) t x = unchangedBy t (suc n)
 unfoldable pub enableChange : Table → Settings → Change
 enableChange t s =
     let k = place unused (counted t) in
-    changeOr (refusal (rules (counted t) (enable s))) t (slotChange t (Link (indexAt k)) k (inUse s))
+    changeOr (refusal (rules (counted t) (enable s))) t (slotChange t (Link (indexAt k)) k (inUse (stored s)))
 
 unfoldable pub disableChange : Table → LinkIndex → Change
 disableChange t i = changeOr (refusal (rules (counted t) (disable i))) t (slotChange t Nothing (placeOf i) free)

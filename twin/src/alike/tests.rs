@@ -5,6 +5,7 @@ use crate::limits::DAYLIST;
 use crate::link::InterfaceNumbers;
 use crate::listing::lines;
 use crate::prefix::{Prefix, NO_PREFIX};
+use crate::prefix_list::{PrefixList, NO_PREFIXES};
 use crate::table::{StartSettings, StopSettings};
 use crate::write::record_bytes;
 
@@ -20,7 +21,8 @@ fn at(latitude: i128, longitude: i128, area: Area) -> Area {
 }
 
 fn enable(area: Area, prefix: Prefix) -> Call<'static> {
-    Call::Enable(StopSettings { area, prefix, interface: LAN })
+    let prefixes = PrefixList::of_one_or_none(prefix);
+    Call::Enable(StopSettings { area, prefixes, interface: LAN })
 }
 
 fn indication(transport: u64, area: Area, packet: &[u8]) -> Call<'_> {
@@ -177,7 +179,7 @@ fn an_enable_is_counted_where_4_is_its_first_refusal_or_would_be() {
     let bad_prefix = Prefix { length: 2, ..prefix };
     let square = area(RECTANGLE, 5, 5, 20);
     let interface = InterfaceNumbers { kind: 2, flag: 1 };
-    let retired = StopSettings { area: square, prefix: NO_PREFIX, interface };
+    let retired = StopSettings { area: square, prefixes: NO_PREFIXES, interface };
     let near = (Caller::Enable, "near miss: square turned by 45".to_string());
     for (maximum, given, expected) in [
         // 0, 5, 6, 30, 2 and 3

@@ -4,6 +4,7 @@ use crate::link::InterfaceNumbers;
 use crate::mid::LARGEST_MID;
 use crate::packet::{fault_place, LOOPBACK, UNSPECIFIED};
 use crate::prefix::{Prefix, NO_PREFIX};
+use crate::prefix_list::PrefixList;
 use crate::reply::Refusal::*;
 use crate::table::{StartSettings, StopSettings};
 
@@ -52,8 +53,8 @@ fn table() -> Table {
         let mut bytes = [0; 16];
         bytes[0] = first;
         let area = Area { angle, ..AREA };
-        let prefix = Prefix { length, bytes };
-        table.enable(&StopSettings { area, prefix, interface: numbers(kind) }).unwrap();
+        let prefixes = PrefixList::of_one_or_none(Prefix { length, bytes });
+        table.enable(&StopSettings { area, prefixes, interface: numbers(kind) }).unwrap();
     }
     table
 }
@@ -114,9 +115,9 @@ fn line_3_destination_first_then_source() {
 #[test]
 fn line_3_takes_a_source_of_zeros_within_a_prefix() {
     let mut table = table();
-    let prefix = Prefix { length: 8, bytes: [0; 16] };
+    let prefixes = PrefixList::of(&[Prefix { length: 8, bytes: [0; 16] }]);
     let area = Area { angle: 40, ..AREA };
-    table.enable(&StopSettings { area, prefix, interface: numbers(1) }).unwrap();
+    table.enable(&StopSettings { area, prefixes, interface: numbers(1) }).unwrap();
     let from_zeros = packet(UNSPECIFIED, address(0xFF));
     let delivery = table.indication(&unicast(&from_zeros), &mut [0; 1_294]);
     assert_eq!(delivery.unwrap().link, 5);

@@ -1,5 +1,7 @@
 //! What `compare` saw in the files, how it tells it, and its score.
 
+use std::fmt::Display;
+
 use super::subject::Subject;
 use crate::alike;
 use crate::call::{kind, Call};
@@ -8,10 +10,11 @@ use crate::orders::Counts;
 use crate::pairs::{allowed_pairs, name_of_kind, Seen};
 use crate::replay::{for_each_call, Answer, Replay};
 use crate::resolving;
+use crate::several;
 use crate::thousands;
 
-/// Files, pairs, situations, next hops, likenesses and what thousands of stops show,
-/// each passed or failed.
+/// Files, pairs, situations, next hops, likenesses and what several prefixes and
+/// thousands of stops show, each passed or failed.
 #[derive(Default)]
 pub struct Score {
     pub passed: u64,
@@ -42,6 +45,7 @@ pub struct Coverage {
     situations: Counts,
     next_hops: resolving::Counts,
     likenesses: alike::Counts,
+    several: several::Counts,
     thousands: thousands::Counts,
 }
 
@@ -54,6 +58,7 @@ impl Coverage {
             situations: Counts::default(),
             next_hops: resolving::Counts::default(),
             likenesses: alike::Counts::default(),
+            several: several::Counts::default(),
             thousands: thousands::Counts::default(),
         }
     }
@@ -67,6 +72,7 @@ impl Coverage {
         if self.subject.is_own(number) {
             self.pairs.add(own_lines);
         }
+        self.several.begin_day(limits, input, own_lines);
         self.thousands.begin_day(input, own_lines);
         let mut own_lines = own_lines.iter();
         // Once for all of them, since thousands of stops take their time.
@@ -81,6 +87,7 @@ impl Coverage {
         self.situations.add_call(replay, kind, call);
         self.next_hops.add_call(replay, kind, call);
         self.likenesses.add_call(replay, call, answer);
+        self.several.add_call(replay, kind, call, answer);
         if self.subject == Subject::Dispatchlist {
             self.thousands.add_call(replay, kind, call, answer);
         }
@@ -96,6 +103,7 @@ impl Coverage {
         report_situations(&self.situations, score);
         report_next_hops(&self.next_hops, score);
         report_likenesses(&self.likenesses, score);
+        report_several(&self.several, score);
         if self.subject == Subject::Dispatchlist {
             report_thousands(&self.thousands, score);
         }
@@ -122,28 +130,41 @@ fn report_situations(counts: &Counts, score: &mut Score) {
     }
 }
 
-fn report_next_hops(counts: &resolving::Counts, score: &mut Score) {
-    println!("{:<16} {:<60} {:>9}", "record", "reply by the next hop", "count");
-    let kind = name_of_kind(RecordKind::Known(kind::REQUEST));
-    for (situation, count) in counts.rows() {
-        score.count_seen(&format!("{kind:<16} {:<60}", situation.name()), *count);
+/// Prints how often each of these was seen under a title, and counts it.
+fn report_rows<Name: Display>(
+    title: &str,
+    rows: impl IntoIterator<Item = (&'static str, Name, u64)>,
+    score: &mut Score,
+) {
+    println!("{:<16} {title:<60} {:>9}", "record", "count");
+    for (record, name, count) in rows {
+        score.count_seen(&format!("{record:<16} {name:<60}"), count);
     }
+}
+
+fn report_next_hops(counts: &resolving::Counts, score: &mut Score) {
+    let kind = name_of_kind(RecordKind::Known(kind::REQUEST));
+    let rows = counts.rows().iter().map(|(situation, count)| (kind, situation.name(), *count));
+    report_rows("reply by the next hop", rows, score);
 }
 
 fn report_likenesses(counts: &alike::Counts, score: &mut Score) {
-    println!("{:<16} {:<60} {:>9}", "record", "areas compared", "count");
-    for row in counts.rows() {
-        score.count_seen(&format!("{:<16} {:<60}", row.caller.name(), row.way.name()), row.count);
-    }
+    let rows = counts.rows().iter().map(|row| (row.caller.name(), row.way.name(), row.count));
+    report_rows("areas compared", rows, score);
+}
+
+fn report_several(counts: &several::Counts, score: &mut Score) {
+    let rows = counts.rows().into_iter().map(of_kind);
+    report_rows("several prefixes", rows, score);
 }
 
 fn report_thousands(counts: &thousands::Counts, score: &mut Score) {
-    println!("{:<16} {:<60} {:>9}", "record", "thousands of stops", "count");
-    for (kind, name, count) in counts.rows() {
-        let kind = name_of_kind(RecordKind::Known(kind));
-        score.count_seen(&format!("{kind:<16} {name:<60}"), count);
-    }
-    for (name, count) in counts.rows_of_days() {
-        score.count_seen(&format!("{:<16} {name:<60}", "day"), count);
-    }
+    let of_days = counts.rows_of_days().into_iter();
+    let of_days = of_days.map(|(name, count)| ("day", name.to_string(), count));
+    let rows = counts.rows().into_iter().map(of_kind);
+    report_rows("thousands of stops", rows.chain(of_days), score);
+}
+
+fn of_kind<Name>((kind, name, count): (u64, Name, u64)) -> (&'static str, Name, u64) {
+    (name_of_kind(RecordKind::Known(kind)), name, count)
 }

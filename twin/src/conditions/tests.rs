@@ -6,7 +6,8 @@ use crate::limits::{DAYLIST, DISPATCHLIST};
 use crate::listing::{lines, Line, RecordKind};
 use crate::mid::LARGEST_MID;
 use crate::packet::check_packet;
-use crate::prefix::Prefix;
+use crate::prefix::{Prefix, NO_PREFIX};
+use crate::prefix_list::PrefixList;
 use crate::replay::for_each_call;
 use crate::reply::Refusal;
 
@@ -26,7 +27,8 @@ fn stop() -> StopSettings {
     let area = Area { shape: CIRCLE, latitude: 0, longitude: 0, a: 5, b: 0, angle: 0 };
     let mut bytes = [0; 16];
     bytes[0] = 0x20;
-    StopSettings { area, prefix: Prefix { length: 9, bytes }, interface: LAN }
+    let prefixes = PrefixList::of(&[Prefix { length: 9, bytes }]);
+    StopSettings { area, prefixes, interface: LAN }
 }
 
 /// From ::1, of version 4 and with a wrong length field.
@@ -108,18 +110,18 @@ fn conditions_of_an_enable() {
     // The area, as it is not good, is equal to none; the prefix, with a bit past its
     // length, still overlaps by its first nine.
     let bad_area = Area { angle: 360, ..stop().area };
-    let mut bad_prefix = stop().prefix;
-    bad_prefix.bytes[1] = 1;
+    let mut bad_prefix = stop().prefixes;
+    bad_prefix.places[0].bytes[1] = 1;
     let elsewhere = Area { latitude: 1, ..stop().area };
     for (settings, expected) in [
         (stop(), &[4, 5, 6][..]),
         (StopSettings { area: elsewhere, ..stop() }, &[5, 6]),
-        (StopSettings { prefix: bad_prefix, ..stop() }, &[3, 4, 5, 6]),
+        (StopSettings { prefixes: bad_prefix, ..stop() }, &[3, 4, 5, 6]),
         (StopSettings { area: bad_area, ..stop() }, &[2, 5, 6]),
         (StopSettings { interface: retired, ..stop() }, &[30, 4, 5, 6]),
         (StopSettings { interface: also_bad_flag, ..stop() }, &[1, 30, 4, 5, 6]),
         (
-            StopSettings { area: bad_area, prefix: bad_prefix, interface: also_bad_flag },
+            StopSettings { area: bad_area, prefixes: bad_prefix, interface: also_bad_flag },
             &[1, 30, 2, 3, 5, 6],
         ),
     ] {
@@ -133,6 +135,30 @@ fn conditions_of_an_enable() {
             [],
             "before the start it is 16"
         );
+    }
+}
+
+/// No record has a count above four, so that 29 is asked of the call alone.
+#[test]
+fn conditions_of_a_list() {
+    let mut full = table(1);
+    full.enable(&stop()).unwrap();
+    let [of_stop, mut other] = [stop().prefixes.places[0]; 2];
+    other.bytes[0] = 0x30;
+    let bad_area = Area { angle: 360, ..stop().area };
+    let elsewhere = Area { latitude: 1, ..stop().area };
+    let too_many = |prefix| PrefixList { count: 5, places: [prefix; 4] };
+    for (area, prefixes, expected) in [
+        (stop().area, too_many(of_stop), &[29, 4, 5, 6][..]),
+        (bad_area, too_many(NO_PREFIX), &[2, 29, 3, 6]),
+        (stop().area, PrefixList::of(&[other, NO_PREFIX, of_stop]), &[3, 4, 5, 6]),
+        (elsewhere, PrefixList::of(&[other, NO_PREFIX]), &[3, 6]),
+        (elsewhere, PrefixList::of(&[other, other]), &[5, 6]),
+        (elsewhere, PrefixList::of(&[other, of_stop]), &[5, 6]),
+        (elsewhere, PrefixList { count: 1, places: [other; 4] }, &[6]),
+    ] {
+        let call = Call::Enable(StopSettings { area, prefixes, ..stop() });
+        assert_eq!(holding(DAYLIST, Some(&full), &call), expected, "{prefixes:?}");
     }
 }
 
@@ -194,7 +220,14 @@ fn the_packets_part_is_that_of_the_calls() {
 /// `reply-first`: the first that holds is listed, and 0 where none does.
 #[test]
 fn the_first_that_holds_is_listed() {
-    let kinds = [kind::START, kind::ENABLE, kind::INDICATION, kind::OLD_REQUEST, kind::REQUEST];
+    let kinds = [
+        kind::START,
+        kind::OLD_ENABLE,
+        kind::INDICATION,
+        kind::OLD_REQUEST,
+        kind::REQUEST,
+        kind::ENABLE,
+    ];
     for number in 0..100 {
         let day = day_file(21, number);
         let mut listed = lines(DAYLIST, &day).into_iter();

@@ -94,11 +94,11 @@ fn place(destination: &Destination) -> String {
 
 #[cfg(test)]
 mod tests {
+    use super::super::tests::assert_printed;
     use super::*;
 
     #[test]
     fn as_they_are_printed() {
-        let lines = cases().iter().map(Case::line).collect::<Vec<_>>();
         let expected = [
             "request to a film server behind the mast: \
              expected 1 to 02:00:00:00:00:01 class 7 length 40 \
@@ -111,6 +111,6 @@ mod tests {
              expected 3 to 1 0 0 500 300 90 class 7 length 40 \
              got 3 to 1 0 0 500 300 90 class 7 length 40",
         ];
-        assert_eq!(lines, expected);
+        assert_printed(&cases(), &expected);
     }
 }

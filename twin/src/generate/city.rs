@@ -5,10 +5,10 @@ use super::prefixes::first_bits;
 use super::random::Random;
 use crate::area::{Area, LATITUDE_BOUND, LONGITUDE_BOUND};
 use crate::packet::Address;
-use crate::prefix::{Prefix, NO_PREFIX};
+use crate::prefix::Prefix;
 
 /// The cell of a stop has so many bits: enough for each index of the longest run, and
-/// as many again for stops that are not enabled.
+/// as many again for further prefixes and for stops that are not enabled.
 const CELL_BITS: u64 = 13;
 const CELLS: u64 = 1 << CELL_BITS;
 /// The cells lie in rows from west to east.
@@ -72,18 +72,18 @@ impl City {
         first_bits(&bits.to_be_bytes(), random.between(shortest, longest))
     }
 
-    /// A new stop with a prefix.
-    pub fn stop(&mut self, random: &mut Random) -> (Area, Prefix) {
-        let number = self.next;
-        self.next += 1;
-        (self.area(random, number), self.prefix(random, number))
+    /// A new stop with so many prefixes, each of a cell of its own.
+    pub fn stop(&mut self, random: &mut Random, count: usize) -> (Area, Vec<Prefix>) {
+        let first = self.next;
+        self.next += count.max(1) as u64;
+        let prefixes = (first..).take(count).map(|number| self.prefix(random, number)).collect();
+        (self.area(random, first), prefixes)
     }
 
-    /// A new stop; one of four has no prefix.
-    pub fn any_stop(&mut self, random: &mut Random) -> (Area, Prefix) {
-        let (area, prefix) = self.stop(random);
-        let none = random.percent(25);
-        (area, if none { NO_PREFIX } else { prefix })
+    /// A new stop. Few have several prefixes, so that a day has room for thousands.
+    pub fn any_stop(&mut self, random: &mut Random) -> (Area, Vec<Prefix>) {
+        let count = random.pick(&[0, 0, 0, 1, 1, 1, 1, 1, 2, 4]);
+        self.stop(random, count)
     }
 
     /// An area and an address in the city, of a cell where no stop is yet.
@@ -105,15 +105,20 @@ mod tests {
             let mut random = Random::new(seed);
             let mut city = City::new(&mut random);
             let (mut centres, mut cells) = (BTreeSet::new(), BTreeSet::new());
-            for _ in 0..5_000 {
-                let (area, prefix) = city.stop(&mut random);
-                assert!(area.is_good() && prefix.is_good(), "{area:?} {prefix:?}");
+            for number in 0..4_500 {
+                let (area, prefixes) = match number % 2 {
+                    0 => city.stop(&mut random, 1),
+                    _ => city.any_stop(&mut random),
+                };
+                assert!(area.is_good(), "{area:?}");
                 // No change moves a centre that is not at an end of the longitudes.
                 assert!(area.longitude.abs() < LONGITUDE_BOUND);
                 assert!(centres.insert((area.latitude, area.longitude)));
                 // Equally many first bits of each tell all of them apart.
-                assert!(prefix.length >= city.place + CELL_BITS);
-                assert!(cells.insert(first_bits(&prefix.bytes, city.place + CELL_BITS).bytes));
+                for prefix in prefixes {
+                    assert!(prefix.is_good() && prefix.length >= city.place + CELL_BITS);
+                    assert!(cells.insert(first_bits(&prefix.bytes, city.place + CELL_BITS).bytes));
+                }
             }
             let (area, address) = city.elsewhere(&mut random);
             assert!(!centres.contains(&(area.latitude, area.longitude)));

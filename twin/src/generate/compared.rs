@@ -8,7 +8,6 @@ use super::near;
 use super::random::Random;
 use crate::area::{EAST_END, WEST_END};
 use crate::call::{Call, GEO_ANYCAST, GEO_BROADCAST};
-use crate::prefix::NO_PREFIX;
 
 /// Each pair where it lies and at the two ends of the longitudes, and chains.
 pub fn joined_areas(random: Random) -> Day {
@@ -45,7 +44,7 @@ fn day_with_stops(random: Random) -> Day {
     day.good_start(maximum);
     for _ in 0..day.random.between(0, maximum - 2) {
         let area = areas::fresh(&mut day.random);
-        day.enable_with(area, NO_PREFIX);
+        day.enable_with(area, &[]);
     }
     if day.random.percent(50) {
         day.disable_one();
@@ -55,11 +54,11 @@ fn day_with_stops(random: Random) -> Day {
 
 fn compare_both_ways(day: &mut Day, (one, other): Pair) {
     for (of_stop, given) in [(one, other), (other, one)] {
-        let stop = day.enable_with(of_stop, NO_PREFIX);
+        let stop = day.enable_with(of_stop, &[]);
         for transport in [GEO_ANYCAST, GEO_BROADCAST] {
             day.indicate_to_area(transport, given);
         }
-        let second = day.enable_with(given, NO_PREFIX);
+        let second = day.enable_with(given, &[]);
         for index in [stop.link, second.link].into_iter().flatten() {
             day.add(&Call::Disable(index));
         }

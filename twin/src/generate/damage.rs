@@ -2,8 +2,10 @@
 //! that `record-broken` names.
 
 mod hop;
+mod list;
 
 use super::day::Day;
+use super::enables::{old_enable_pieces, PLACE_OF_COUNT};
 use super::random::Random;
 use super::requests::old_request_pieces;
 use super::themes;
@@ -45,6 +47,15 @@ pub fn damaged_in_kind(random: &mut Random, day: &Day, damaged: RecordKind) -> V
     };
     let place = late_place(random, day);
     with_broken_record(day, place, broken)
+}
+
+/// A whole day in whose midst stands a record of kind 9 that is broken in its list, in
+/// the way of this number.
+pub fn damaged_in_list(mut random: Random, way: u64) -> Vec<u8> {
+    let day = themes::any(Random::new(random.number()));
+    let broken = list::broken(&mut random, way);
+    let place = late_place(&mut random, &day);
+    with_broken_record(&day, place, broken)
 }
 
 /// The offset of a record behind the first third of them.
@@ -96,6 +107,7 @@ fn pieces_of_kind(random: &mut Random, day: &Day, wanted: u64) -> Vec<Piece> {
     let (call, _) = read_record(scratch.last_record(), 0).expect("just written");
     match call {
         Call::Request(request) if wanted == kind::OLD_REQUEST => old_request_pieces(&request),
+        Call::Enable(settings) if wanted == kind::OLD_ENABLE => old_enable_pieces(&settings),
         call => record_pieces(&call).expect("just written"),
     }
 }
@@ -110,23 +122,27 @@ fn number_places(pieces: &[Piece]) -> Vec<usize> {
 }
 
 fn any_kind(random: &mut Random) -> u64 {
-    random.between(kind::START, kind::REQUEST)
+    random.between(kind::START, kind::LAST)
 }
 
 fn unknown_kind(random: &mut Random) -> BrokenRecord {
     let known = any_kind(random);
     let number = match random.percent(50) {
         true => alias(random, known),
-        false => random.pick(&[0, 9, 10, 11, 64, 127, 128, 255, 1 << 63, u64::MAX]),
+        false => random.pick(&[0, 10, 11, 12, 64, 127, 128, 255, 1 << 63, u64::MAX]),
     };
     BrokenRecord { bytes: number_bytes(number), must_be_last: false }
 }
 
-/// A whole record, most often a request, but for its kind, which is just outside 1..8.
+/// A whole record, most often an enable or a request, but for its kind, which is just
+/// outside 1..9.
 fn unknown_kind_of_whole_record(random: &mut Random, day: &Day) -> BrokenRecord {
-    let wanted = if random.percent(60) { kind::REQUEST } else { any_kind(random) };
+    let wanted = match random.percent(60) {
+        true => random.pick(&[kind::REQUEST, kind::ENABLE]),
+        false => any_kind(random),
+    };
     let mut pieces = pieces_of_kind(random, day, wanted);
-    pieces[0] = Piece::Number(random.pick(&[0, 9]));
+    pieces[0] = Piece::Number(random.pick(&[0, 10]));
     BrokenRecord { bytes: encoded(&pieces).concat(), must_be_last: false }
 }
 
@@ -217,9 +233,11 @@ fn packet_beyond_the_end(random: &mut Random, day: &Day) -> BrokenRecord {
 
 /// The places of the numbers with bounds of their own (in front of each stands
 /// the record kind), and the first numbers outside these bounds.
-const BOUNDED: [(u64, usize, &[u64]); 8] = [
+const BOUNDED: [(u64, usize, &[u64]); 9] = [
     // prefix length
-    (kind::ENABLE, 7, &[129, 130, 136, 255]),
+    (kind::OLD_ENABLE, PLACE_OF_COUNT, &[129, 130, 136, 255]),
+    // count of prefixes
+    (kind::ENABLE, PLACE_OF_COUNT, &[5, 6, 255]),
     // choice of an area
     (kind::DGVL_AREA, 1, &[2, 3]),
     // transport

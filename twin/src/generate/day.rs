@@ -8,14 +8,14 @@ use crate::area::Area;
 use crate::arriving::Indication;
 use crate::call::{kind, Call, Destination, GEO_UNICAST, TSB};
 use crate::limits::{Limits, DAYLIST};
-use crate::link::InterfaceNumbers;
 use crate::prefix::Prefix;
+use crate::prefix_list::PrefixList;
 use crate::replay::{Answer, Replay};
-use crate::table::{StartSettings, StopSettings, Table};
+use crate::table::{StartSettings, Table};
 use crate::write::record_bytes;
 
-/// How likely each record kind 1 to 8 is.
-pub type Weights = [u64; 8];
+/// How likely each record kind 1 to 9 is.
+pub type Weights = [u64; 9];
 
 #[derive(Clone)]
 pub struct Day {
@@ -84,9 +84,10 @@ impl Day {
         table.stops.values().map(|stop| stop.area).chain(table.dgvl_area).collect()
     }
 
+    /// All prefixes of the enabled stops.
     pub fn known_prefixes(&self) -> Vec<Prefix> {
         let Some(table) = self.table() else { return Vec::new() };
-        table.stops.values().map(|stop| stop.prefix).collect()
+        table.stops.values().flat_map(|stop| stop.prefixes.listed()).copied().collect()
     }
 
     pub fn packet(&mut self) -> Vec<u8> {
@@ -123,22 +124,6 @@ impl Day {
         let bad = std::mem::take(&mut self.bad);
         self.start(maximum);
         self.bad = bad;
-    }
-
-    pub fn enable_with(&mut self, area: Area, prefix: Prefix) -> Answer {
-        let interface = values::interface(&mut self.random, self.bad);
-        self.add(&Call::Enable(StopSettings { area, prefix, interface }))
-    }
-
-    /// One stop of each kind that links can have and each flag: 2 to 5 after the
-    /// start.
-    pub fn enable_each_interface(&mut self) {
-        for (block, kind, flag) in [(0, 1, 0), (1, 1, 1), (2, 3, 0), (3, 3, 1)] {
-            let area = areas::fresh(&mut self.random);
-            let prefix = prefixes::of_block(&mut self.random, block);
-            let interface = InterfaceNumbers { kind, flag };
-            self.add(&Call::Enable(StopSettings { area, prefix, interface }));
-        }
     }
 
     pub fn indicate(&mut self, transport: u64, destination: Destination, packet: &[u8]) -> Answer {
@@ -178,11 +163,11 @@ impl Day {
         self.indicate(transport, destination, &packet)
     }
 
-    /// Area and prefix of a stop, new or like those that the table knows.
-    pub fn area_and_prefix(&mut self) -> (Area, Prefix) {
+    /// Area and prefix of a stop, new or like those that the table knows, or no prefix.
+    pub fn area_and_prefix(&mut self) -> (Area, PrefixList) {
         let known = self.known_prefixes();
         let prefix = prefixes::any(&mut self.random, &known, self.bad);
-        (self.area(), prefix)
+        (self.area(), PrefixList::of_one_or_none(prefix))
     }
 
     fn any_dgvl_area(&mut self) -> Answer {
@@ -190,17 +175,14 @@ impl Day {
         self.add(&Call::DgvlArea(area))
     }
 
-    /// Any record of this kind, 1 to 8.
+    /// Any record of this kind, 1 to 9.
     pub fn any_of_kind(&mut self, wanted: u64) -> Answer {
         match wanted {
             kind::START => {
                 let maximum = self.maximum(self.bad);
                 self.start(maximum)
             }
-            kind::ENABLE => {
-                let (area, prefix) = self.area_and_prefix();
-                self.enable_with(area, prefix)
-            }
+            kind::OLD_ENABLE | kind::ENABLE => self.any_enable(wanted),
             kind::DISABLE => {
                 let index = self.index();
                 self.add(&Call::Disable(index))

@@ -4,24 +4,26 @@
 use super::day::Day;
 use super::packets;
 use super::random::Random;
-use super::{areas, hops, prefixes, values};
+use super::{areas, hops, lists, prefixes, values};
 use crate::area::Area;
 use crate::arriving::Indication;
 use crate::call::{Call, Destination, GEO_ANYCAST, GEO_BROADCAST, GEO_UNICAST};
 use crate::link::{InterfaceNumbers, RETIRED_KIND};
 use crate::packet::{Address, LOOPBACK};
 use crate::prefix::{Prefix, NO_PREFIX};
+use crate::prefix_list::{PrefixList, MOST_PREFIXES};
 use crate::reply::Refusal::{self, *};
 use crate::table::{StopSettings, DGVL, FIRST_STOP, LARGEST_MAXIMUM};
 
-/// `enable-refusals`, but for 6, which each enable has besides in a full table.
+/// `enable-refusals`, but for 6, which each enable has besides in a full table, and 29,
+/// which no record has.
 const OF_ENABLE: [Refusal; 6] = [
     ValueOutsideItsList,
     RetiredKind,
     AreaNotGood,
     PrefixNotGood,
     AreaEqualToAStops,
-    PrefixOverlapsAStops,
+    PrefixOverlapsAnother,
 ];
 
 /// `indication-refusals`, but for 13, which each long packet has besides.
@@ -85,24 +87,40 @@ pub fn several_faults(random: Random) -> Day {
     day
 }
 
-/// An enable, an indication and a request of each kind. There must be a stop with a
-/// prefix.
+/// An enable of each kind, an indication and a request of each kind. There must be a
+/// stop with a prefix.
 pub fn add_one_of_each(day: &mut Day) {
+    add_old_enable(day);
     add_enable(day);
     add_indication(day);
     add_old_request(day);
     add_request(day);
 }
 
+/// Of kind 2.
+fn add_old_enable(day: &mut Day) {
+    let settings = faulty_settings(day, |random, faults, known| {
+        PrefixList::of_one_or_none(faulty_prefix(random, faults, known))
+    });
+    day.add_old_enable(&settings);
+}
+
+/// Of kind 9.
 fn add_enable(day: &mut Day) {
-    let (known_areas, mut known_prefixes) = (day.known_areas(), day.known_prefixes());
-    known_prefixes.retain(|prefix| prefix.length > 0);
+    let settings = faulty_settings(day, faulty_list);
+    day.add(&Call::Enable(settings));
+}
+
+fn faulty_settings(
+    day: &mut Day,
+    faulty_list: fn(&mut Random, &Faults, &[Prefix]) -> PrefixList,
+) -> StopSettings {
+    let (known_areas, known_prefixes) = (day.known_areas(), day.known_prefixes());
     let random = &mut day.random;
     let faults = Faults::any(random, &OF_ENABLE);
     let area = faulty_area(random, &faults, &known_areas);
-    let prefix = faulty_prefix(random, &faults, &known_prefixes);
-    let interface = faulty_interface(random, &faults);
-    day.add(&Call::Enable(StopSettings { area, prefix, interface }));
+    let prefixes = faulty_list(random, &faults, &known_prefixes);
+    StopSettings { area, prefixes, interface: faulty_interface(random, &faults) }
 }
 
 /// Where it is to be equal to a stop's and not good, it is a stop's area spoiled.
@@ -118,9 +136,10 @@ fn faulty_area(random: &mut Random, faults: &Faults, known: &[Area]) -> Area {
     }
 }
 
+/// One, or none where it is to have no fault.
 fn faulty_prefix(random: &mut Random, faults: &Faults, known: &[Prefix]) -> Prefix {
     let of_stop = random.pick(known);
-    match (faults.has(PrefixNotGood), faults.has(PrefixOverlapsAStops)) {
+    match (faults.has(PrefixNotGood), faults.has(PrefixOverlapsAnother)) {
         (true, true) => prefixes::with_bit_past_length(random, &of_stop),
         (true, false) => {
             let fresh = prefixes::fresh(random);
@@ -129,6 +148,28 @@ fn faulty_prefix(random: &mut Random, faults: &Faults, known: &[Prefix]) -> Pref
         (false, true) => prefixes::nested(random, &of_stop),
         (false, false) => NO_PREFIX,
     }
+}
+
+/// Up to four that lie apart, and among them one with the faults; or one with length 0,
+/// or one that overlaps another of the list.
+fn faulty_list(random: &mut Random, faults: &Faults, known: &[Prefix]) -> PrefixList {
+    let (bad, overlapping) = (faults.has(PrefixNotGood), faults.has(PrefixOverlapsAnother));
+    let count = random.between(1, MOST_PREFIXES as u64 - 1) as usize;
+    let mut list = lists::fresh(random, count);
+    let place = random.below(list.len() as u64 + 1) as usize;
+    let within = random.percent(50);
+    let of_list = random.pick(&list);
+    match (bad, overlapping) {
+        (true, false) if random.percent(50) => list.insert(place, NO_PREFIX),
+        (true, true) if within && list.len() + 2 <= MOST_PREFIXES => {
+            list.insert(place, prefixes::nested(random, &of_list));
+            list.insert(random.below(place as u64 + 1) as usize, NO_PREFIX);
+        }
+        (false, true) if within => list.insert(place, prefixes::nested(random, &of_list)),
+        (false, false) => {}
+        _ => list.insert(place, faulty_prefix(random, faults, known)),
+    }
+    PrefixList::of(&list)
 }
 
 fn faulty_interface(random: &mut Random, faults: &Faults) -> InterfaceNumbers {

@@ -92,13 +92,13 @@ pub fn next_hops(random: Random) -> Day {
     day.good_start(7);
     day.enable_each_interface();
     if day.random.percent(50) {
-        day.any_records(1, &[0, 0, 0, 1, 0, 0, 0, 0]);
+        day.any_records(1, &[0, 0, 0, 1, 0, 0, 0, 0, 0]);
     }
     for index in 0..=6 {
         request_with_each(&mut day, index);
     }
     day.bad = 5;
-    day.any_records(30, &[0, 1, 1, 2, 1, 2, 10, 20]);
+    day.any_records(30, &[0, 1, 1, 2, 1, 2, 10, 20, 1]);
     day
 }
 

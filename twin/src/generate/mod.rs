@@ -9,9 +9,11 @@ pub mod compared;
 pub mod damage;
 pub mod day;
 pub mod dispatch;
+pub mod enables;
 pub mod faults;
 pub mod hops;
 pub mod joined;
+pub mod lists;
 pub mod near;
 pub mod noise;
 pub mod packets;
@@ -19,6 +21,7 @@ pub mod prefixes;
 pub mod random;
 pub mod records;
 pub mod requests;
+pub mod several;
 pub mod sizes;
 pub mod starts;
 pub mod themes;
@@ -32,7 +35,7 @@ use random::Random;
 
 /// An odd number: `compare` can feed every second file in pieces, and so each theme
 /// comes in pieces in every second round.
-pub const FILES_OF_A_ROUND: u64 = 33;
+pub const FILES_OF_A_ROUND: u64 = 37;
 const _: () = assert!(FILES_OF_A_ROUND % 2 == 1);
 
 /// The file of this number under this seed.
@@ -56,10 +59,16 @@ pub fn day_file(seed: u64, number: u64) -> Vec<u8> {
         13 | 14 => themes::mixed(random).into_bytes(),
         15 | 16 => faults::several_faults(random).into_bytes(),
         17 => hops::next_hops(random).into_bytes(),
-        18..=27 => damage::damaged(random),
-        28 => noise::bytes_changed(random),
-        29 => noise::cut_or_shifted(random),
-        30 => noise::formless(random),
+        18 => several::lists_of_prefixes(random).into_bytes(),
+        19 => several::operators(random).into_bytes(),
+        20..=28 => damage::damaged(random),
+        place @ 29..=31 => {
+            let way = number / FILES_OF_A_ROUND * 3 + place - 29;
+            damage::damaged_in_list(random, way)
+        }
+        32 => noise::bytes_changed(random),
+        33 => noise::cut_or_shifted(random),
+        34 => noise::formless(random),
         _ => sizes::around_the_limit(random),
     }
 }

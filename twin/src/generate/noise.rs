@@ -36,7 +36,9 @@ pub fn formless(mut random: Random) -> Vec<u8> {
     let length = random.pick(&[1, 2, 9, 10, 11, 100, 3_000, 65_536, 65_537, 70_000]);
     match random.below(4) {
         0 => Vec::new(),
-        1 => vec![random.pick(&[0x00, 0x01, 0x03, 0x05, 0x07, 0x08, 0x09, 0x80, 0xFF]); length],
+        1 => {
+            vec![random.pick(&[0x00, 0x01, 0x03, 0x05, 0x07, 0x08, 0x09, 0x0A, 0x80, 0xFF]); length]
+        }
         2 => (0..length).map(|_| random.byte()).collect(),
         _ => record_like(random, length),
     }

@@ -16,15 +16,15 @@ pub struct Taste {
     pub long: u64,
 }
 
-/// An address within the prefix, or outside it by its last bit.
+/// An address within the prefix, which has a length, or outside it by its last bit.
 pub fn near_prefix(random: &mut Random, prefix: &Prefix, within: bool) -> Address {
     let tail = u128::from_be_bytes(random.bytes());
     let behind = u128::MAX.checked_shr(prefix.length as u32).unwrap_or(0);
     let address = (u128::from_be_bytes(prefix.bytes) | tail & behind).to_be_bytes();
-    if within || prefix.length == 0 {
-        return address;
+    match within {
+        true => address,
+        false => turned(&address, prefix.length - 1),
     }
-    turned(&address, prefix.length - 1)
 }
 
 pub fn multicast(random: &mut Random) -> Address {
@@ -79,13 +79,12 @@ pub fn special(random: &mut Random) -> Address {
 
 /// Any address, given the prefixes that the table knows.
 pub fn address(random: &mut Random, known: &[Prefix], special_percent: u64) -> Address {
-    let some: Vec<Prefix> = known.iter().copied().filter(|prefix| prefix.length > 0).collect();
     if random.percent(special_percent) {
         return special(random);
     }
     match random.below(10) {
-        0..=4 if !some.is_empty() => {
-            let (prefix, within) = (random.pick(&some), random.percent(75));
+        0..=4 if !known.is_empty() => {
+            let (prefix, within) = (random.pick(known), random.percent(75));
             near_prefix(random, &prefix, within)
         }
         5 | 6 => with_identifier(random),

@@ -66,14 +66,17 @@ pub fn nested(random: &mut Random, to: &Prefix) -> Prefix {
     }
 }
 
-/// Equal, longer, shorter, or the neighbour with a bit turned, often the last.
+/// The neighbour of the same length that differs in the last bit alone.
+pub fn beside(prefix: &Prefix) -> Prefix {
+    Prefix { length: prefix.length, bytes: turned(&prefix.bytes, prefix.length - 1) }
+}
+
+/// Equal, longer, shorter, or the neighbour with a bit turned, often the last, of one
+/// whose length is above 0.
 pub fn related(random: &mut Random, to: &Prefix) -> Prefix {
-    if to.length == 0 {
-        return fresh(random);
-    }
     match random.below(5) {
         0..=2 => nested(random, to),
-        3 => Prefix { length: to.length, bytes: turned(&to.bytes, to.length - 1) },
+        3 => beside(to),
         _ => {
             let place = random.below(to.length);
             Prefix { length: to.length, bytes: turned(&to.bytes, place) }

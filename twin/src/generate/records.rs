@@ -36,7 +36,7 @@ pub fn met(random: Random, way: u64) -> Vec<u8> {
 /// So many whole records, and then what is none.
 fn broken_behind(mut day: Day, count: usize) -> Vec<u8> {
     fill_to(&mut day, count);
-    let byte = day.random.pick(&[0x00, 0x09, 0x80, 0xFF]);
+    let byte = day.random.pick(&[0x00, 0x0A, 0x80, 0xFF]);
     let more = day.random.pick(&[1, 2, 1_000]);
     let mut bytes = day.into_bytes();
     bytes.resize(bytes.len() + more, byte);

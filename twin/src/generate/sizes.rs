@@ -1,6 +1,6 @@
 //! Days whose size lies around the most bytes that are read.
 
-use super::day::Day;
+use super::day::{Day, Weights};
 use super::random::Random;
 use crate::call::{kind, Call};
 
@@ -42,15 +42,17 @@ pub fn met(mut day: Day, way: u64) -> Vec<u8> {
     day.into_bytes()
 }
 
+const AMONG_ALL: Weights = [1, 8, 10, 5, 5, 60, 25, 40, 12];
+
 /// Whole records up to exactly this size.
 fn fill_to(day: &mut Day, size: usize) {
     // No record of this day is longer than 2,100 bytes.
     while day.bytes().len() + 2_100 < size {
-        day.any_records(1, &[1, 20, 10, 5, 5, 60, 25, 40]);
+        day.any_records(1, &AMONG_ALL);
     }
     day.long = 0;
     while day.bytes().len() + 150 < size {
-        day.any_records(1, &[1, 20, 10, 5, 5, 60, 25, 40]);
+        day.any_records(1, &AMONG_ALL);
     }
     while day.bytes().len() < size {
         // A disable of two bytes, or of three for an odd rest.
@@ -63,7 +65,7 @@ fn fill_to(day: &mut Day, size: usize) {
 fn more_behind_the_limit(day: &mut Day) {
     fill_to(day, day.limits().most_input);
     let count = day.random.between(1, 60);
-    day.any_records(count, &[1; 8]);
+    day.any_records(count, &[1; 9]);
 }
 
 /// Nothing behind the limit is read, so nothing there is broken either.
@@ -86,7 +88,7 @@ fn cut_by_the_limit(day: &mut Day) {
     let kind = day.random.pick(&[kind::INDICATION, kind::OLD_REQUEST, kind::REQUEST]);
     day.any_of_kind(kind);
     let count = day.random.below(5);
-    day.any_records(count, &[1; 8]);
+    day.any_records(count, &[1; 9]);
 }
 
 /// The limit cuts a number that would go on behind it.

@@ -9,7 +9,7 @@ use crate::link::RETIRED_KIND;
 use crate::table::StartSettings;
 
 /// Records of every kind but starts: before a start each of them is 16.
-pub const ALL_BUT_STARTS: Weights = [0, 2, 2, 2, 2, 2, 1, 2];
+pub const ALL_BUT_STARTS: Weights = [0, 1, 2, 2, 2, 2, 1, 2, 2];
 
 pub fn starts(random: Random) -> Day {
     let mut day = Day::new(random, 20);
@@ -20,7 +20,7 @@ pub fn starts(random: Random) -> Day {
     day
 }
 
-pub const AMONG_SECOND_STARTS: Weights = [10, 20, 6, 5, 5, 20, 10, 15];
+pub const AMONG_SECOND_STARTS: Weights = [10, 10, 6, 5, 5, 20, 10, 15, 12];
 
 /// What is 16 because no start has been good yet, and starts that are refused.
 pub fn refused_starts(day: &mut Day) {

@@ -5,17 +5,18 @@ use super::faults::several_faults;
 use super::hops::next_hops;
 use super::packets;
 use super::random::Random;
+use super::several::{lists_of_prefixes, operators};
 use super::starts::starts;
-use super::{areas, prefixes, values};
+use super::{areas, lists, prefixes, values};
 use crate::area::Area;
 use crate::call::{Call, Destination, GEO_ANYCAST, GEO_BROADCAST, GEO_UNICAST};
-use crate::prefix::{Prefix, NO_PREFIX};
+use crate::prefix::Prefix;
 use crate::reply::Refusal;
 use crate::table::LARGEST_MAXIMUM;
 
-/// Starts, enables, disables, DGVL areas, own MIDs, indications, requests of kinds 7
-/// and 8.
-pub const ALL_CALLS: Weights = [1, 25, 8, 7, 4, 30, 10, 18];
+/// Starts, enables of kind 2, disables, DGVL areas, own MIDs, indications, requests of
+/// kinds 7 and 8, enables of kind 9.
+pub const ALL_CALLS: Weights = [1, 10, 8, 7, 4, 30, 10, 18, 16];
 
 /// Full tables: every index enabled, then 6; disables and enables again.
 pub fn full_table(random: Random, maximum: u64) -> Day {
@@ -41,9 +42,9 @@ fn enable_until_full(day: &mut Day) {
     // Prefixes may overlap by chance, so try more often than there are indices.
     for _ in 0..3 * LARGEST_MAXIMUM {
         let area = areas::fresh(&mut day.random);
-        let none = day.random.percent(30);
-        let prefix = if none { NO_PREFIX } else { prefixes::fresh(&mut day.random) };
-        if day.enable_with(area, prefix).reply == Refusal::NoIndexFree.number() {
+        let count = day.random.pick(&[0, 0, 1, 1, 1, 1, 1, 2, 3, 4]);
+        let prefixes = lists::fresh(&mut day.random, count);
+        if day.enable_with(area, &prefixes).reply == Refusal::NoIndexFree.number() {
             return;
         }
     }
@@ -76,7 +77,7 @@ pub fn near_areas(random: Random) -> Day {
     day.good_start(LARGEST_MAXIMUM);
     for _ in 0..6 {
         let base = areas::good(&mut day.random);
-        day.enable_with(base, NO_PREFIX);
+        day.enable_with(base, &[]);
         for place in 0..6 {
             for up in [false, true] {
                 let near = areas::one_apart(&base, place, up);
@@ -96,7 +97,7 @@ fn use_area(day: &mut Day, area: Area) {
     let packet = day.packet();
     match day.random.below(6) {
         0 => {
-            day.enable_with(area, NO_PREFIX);
+            day.enable_with(area, &[]);
         }
         1 => {
             day.add(&Call::DgvlArea(Some(area)));
@@ -134,7 +135,7 @@ pub fn prefix_lengths(random: Random) -> Day {
 
 fn enable_prefix(day: &mut Day, prefix: Prefix) {
     let area = areas::fresh(&mut day.random);
-    day.enable_with(area, prefix);
+    day.enable_with(area, &[prefix]);
 }
 
 /// Packets of every length at the bounds, right and wrong ones, in and out.
@@ -148,7 +149,7 @@ pub fn packet_bounds(random: Random) -> Day {
         send_and_receive(&mut day, length);
     }
     day.long = 10;
-    day.any_records(90, &[0, 1, 1, 1, 1, 50, 20, 30]);
+    day.any_records(90, &[0, 1, 1, 1, 1, 50, 20, 30, 1]);
     day
 }
 
@@ -172,12 +173,12 @@ pub fn requests(random: Random) -> Day {
     day.good_start(7);
     day.enable_each_interface();
     for _ in 0..2 {
-        day.any_records(3, &[0, 0, 1, 5, 1, 0, 0, 0]);
+        day.any_records(3, &[0, 0, 1, 5, 1, 0, 0, 0, 0]);
         for index in 0..=7 {
             request_each_destination(&mut day, index);
         }
         day.bad = 5;
-        day.any_records(20, &[0, 2, 2, 6, 1, 3, 10, 20]);
+        day.any_records(20, &[0, 1, 2, 6, 1, 3, 10, 20, 1]);
     }
     day
 }
@@ -220,7 +221,7 @@ pub fn mixed(random: Random) -> Day {
 
 /// One of the days that is not too long to be damaged with profit.
 pub fn any(mut random: Random) -> Day {
-    match random.below(9) {
+    match random.below(11) {
         0 => {
             let maximum = values::maximum(&mut random, LARGEST_MAXIMUM, 0);
             full_table(random, maximum)
@@ -232,6 +233,8 @@ pub fn any(mut random: Random) -> Day {
         5 => out_of_range(random),
         6 => several_faults(random),
         7 => next_hops(random),
+        8 => lists_of_prefixes(random),
+        9 => operators(random),
         _ => mixed(random),
     }
 }

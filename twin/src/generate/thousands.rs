@@ -12,7 +12,6 @@ use crate::call::{Call, Destination, GEO_ANYCAST, GEO_BROADCAST, GEO_UNICAST};
 use crate::limits::DISPATCHLIST;
 use crate::packet::Address;
 use crate::prefix::Prefix;
-use crate::reply::Refusal;
 use crate::table::{Stop, FIRST_STOP, LARGEST_MAXIMUM_OVER_A_RUN};
 
 /// A table that is filled up to the maximum, looked at from all sides, and filled again
@@ -86,41 +85,43 @@ pub fn start(day: &mut Day, maximum: u64) {
     day.good_start(65);
 }
 
-/// Enables so many new stops. The first one has a prefix.
+/// Enables so many new stops. The first one has two prefixes.
 pub fn enable(day: &mut Day, city: &mut City, count: u64) {
     for place in 0..count {
-        let (area, prefix) = match place {
-            0 => city.stop(&mut day.random),
+        let (area, prefixes) = match place {
+            0 => city.stop(&mut day.random, 2),
             _ => city.any_stop(&mut day.random),
         };
-        day.enable_with(area, prefix);
+        day.enable_with(area, &prefixes);
     }
 }
 
-/// Enables new stops until there are two that get no index. The first stop has a
-/// prefix, and so has the one that takes the last unused index.
+/// Enables new stops until no index is unused, and then one by each kind of record,
+/// which gets none. The first stop has two prefixes, and so has the one that takes the
+/// last unused index.
 pub fn enable_until_full(day: &mut Day, city: &mut City) {
-    for _ in 0..2 {
-        loop {
-            let table = day.table().expect("the day has started");
-            let unused = table.maximum - 1 - table.stops.len() as u64;
-            let with_prefix = unused == 1 || table.stops.is_empty();
-            let (area, prefix) = match with_prefix {
-                true => city.stop(&mut day.random),
-                false => city.any_stop(&mut day.random),
-            };
-            if day.enable_with(area, prefix).reply == Refusal::NoIndexFree.number() {
-                break;
-            }
-        }
+    loop {
+        let table = day.table().expect("the day has started");
+        let unused = table.maximum - 1 - table.stops.len() as u64;
+        let with_two = unused == 1 || table.stops.is_empty();
+        let (area, prefixes) = match unused {
+            0 => break,
+            _ if with_two => city.stop(&mut day.random, 2),
+            _ => city.any_stop(&mut day.random),
+        };
+        day.enable_with(area, &prefixes);
     }
+    let (area, prefixes) = city.stop(&mut day.random, 1);
+    day.old_enable_with(area, &prefixes);
+    day.enable_list(area, &prefixes);
 }
 
-/// The enabled stops with a prefix at the front, somewhere between and at the end.
+/// The enabled stops with several prefixes at the front, somewhere between and at the
+/// end.
 fn marked(day: &mut Day) -> [(u64, Stop); 3] {
     let table = day.table().expect("the day has started");
-    let with_prefix = table.stops.iter().filter(|(_, stop)| stop.prefix.length > 0);
-    let stops: Vec<(u64, Stop)> = with_prefix.map(|(&index, &stop)| (index, stop)).collect();
+    let with_several = table.stops.iter().filter(|(_, stop)| stop.prefixes.count > 1);
+    let stops: Vec<(u64, Stop)> = with_several.map(|(&index, &stop)| (index, stop)).collect();
     [stops[0], day.random.pick(&stops), stops[stops.len() - 1]]
 }
 
@@ -144,22 +145,25 @@ pub fn look_around(day: &mut Day, city: &City) {
     arrive_by(day, &source, &to);
 }
 
-/// By area, by destination and by source.
+/// By area, and by destination and by source of each prefix.
 fn arrive(day: &mut Day, city: &City, stop: &Stop) {
     for transport in [GEO_ANYCAST, GEO_BROADCAST] {
         let area = areas::described_otherwise(&mut day.random, &stop.area);
         day.indicate_to_area(transport, area);
     }
-    let within = near_prefix(&mut day.random, &stop.prefix, true);
-    let (_, elsewhere) = city.elsewhere(&mut day.random);
-    arrive_by(day, &elsewhere, &within);
-    arrive_by(day, &within, &elsewhere);
+    for prefix in stop.prefixes.listed() {
+        let within = near_prefix(&mut day.random, prefix, true);
+        let (_, elsewhere) = city.elsewhere(&mut day.random);
+        arrive_by(day, &elsewhere, &within);
+        arrive_by(day, &within, &elsewhere);
+    }
 }
 
-/// `line-3`: the destination is asked first, wherever the stops stand in the table.
+/// `line-3`: the destination is asked first, wherever the stops stand in the table and
+/// the prefixes in their lists.
 fn arrive_for_two(day: &mut Day, of_destination: &Stop, of_source: &Stop) {
-    let to = near_prefix(&mut day.random, &of_destination.prefix, true);
-    let source = near_prefix(&mut day.random, &of_source.prefix, true);
+    let to = near_prefix(&mut day.random, &of_destination.prefixes.places[1], true);
+    let source = near_prefix(&mut day.random, &of_source.prefixes.places[0], true);
     arrive_by(day, &source, &to);
 }
 
@@ -169,15 +173,21 @@ fn arrive_by(day: &mut Day, source: &Address, to: &Address) {
     day.indicate(GEO_UNICAST, Destination::Mid(mid), &packet);
 }
 
-/// Enables with the area of one stop, with a prefix within that of the other, and with
-/// both, which is 4.
+/// Enables of each kind with the area of one stop, with a prefix within one of the
+/// other, and with both, which is 4. In kind 9 it stands behind a new one.
 fn refused_by(day: &mut Day, city: &City, of_area: &Stop, of_prefix: &Stop) {
     let area = areas::described_otherwise(&mut day.random, &of_area.area);
-    let prefix = within(&mut day.random, &of_prefix.prefix);
     let (new_area, address) = city.elsewhere(&mut day.random);
-    day.enable_with(area, first_bits(&address, 128));
-    day.enable_with(new_area, prefix);
-    day.enable_with(area, prefix);
+    let new = first_bits(&address, 128);
+    day.old_enable_with(area, &[new]);
+    day.enable_list(area, &[new]);
+    for prefix in &of_prefix.prefixes.listed()[..2] {
+        let inside = within(&mut day.random, prefix);
+        for given in [new_area, area] {
+            day.old_enable_with(given, &[inside]);
+            day.enable_list(given, &[new, inside]);
+        }
+    }
 }
 
 /// No shorter than the prefix, and inside it, so that it overlaps no other's.
@@ -214,20 +224,18 @@ fn disable_some(day: &mut Day, maximum: u64, last_stays: bool) -> Vec<(u64, Stop
 /// Nothing finds a disabled stop.
 fn look_for(day: &mut Day, city: &City, gone: &[(u64, Stop)]) {
     for (index, stop) in gone {
-        if stop.prefix.length > 0 {
-            arrive(day, city, stop);
-        }
-        day.indicate_to_area(GEO_BROADCAST, stop.area);
+        arrive(day, city, stop);
         request(day, *index);
         day.add(&Call::Disable(*index));
     }
 }
 
-/// Half of the settings that are gone come back, those of the last first; new stops
-/// take the rest of the indices.
+/// Half of the settings that are gone come back, those of the last first, their
+/// prefixes in another order; new stops take the rest of the indices.
 fn enable_again(day: &mut Day, city: &mut City, gone: &[(u64, Stop)]) {
     for (_, stop) in gone.iter().rev().step_by(2) {
-        day.enable_with(stop.area, stop.prefix);
+        let prefixes: Vec<Prefix> = stop.prefixes.listed().iter().rev().copied().collect();
+        day.enable_list(stop.area, &prefixes);
     }
     enable_until_full(day, city);
 }

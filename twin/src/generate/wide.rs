@@ -6,13 +6,13 @@ use super::random::Random;
 use super::starts::{refused_starts, retired, ALL_BUT_STARTS, AMONG_SECOND_STARTS};
 use super::themes::ALL_CALLS;
 use super::thousands::{enable, enable_until_full, full_table, indices_above, look_around, start};
-use super::{damage, faults, hops};
+use super::{damage, faults, hops, several};
 use crate::call::{kind, Call};
 use crate::limits::DISPATCHLIST;
 use crate::listing::RecordKind;
 
 /// An odd number, as that of the other days' rounds.
-pub const FILES_OF_A_ROUND: u64 = 19;
+pub const FILES_OF_A_ROUND: u64 = 21;
 const _: () = assert!(FILES_OF_A_ROUND % 2 == 1);
 
 /// Where a table gets larger than one by value, and where the indices get larger than
@@ -32,20 +32,22 @@ pub fn day_file(mut random: Random, number: u64) -> Vec<u8> {
         6 => any_calls(random, maximum, 25).into_bytes(),
         7 => several_faults(random, maximum).into_bytes(),
         8 => next_hops(random, maximum).into_bytes(),
-        place => damaged(random, maximum, BROKEN[(place - 9) as usize]),
+        9 => several_prefixes(random, maximum).into_bytes(),
+        place => damaged(random, maximum, BROKEN[(place - 10) as usize]),
     }
 }
 
 /// What a broken record can show of its kind.
-const BROKEN: [RecordKind; 10] = [
+const BROKEN: [RecordKind; 11] = [
     RecordKind::Known(kind::START),
-    RecordKind::Known(kind::ENABLE),
+    RecordKind::Known(kind::OLD_ENABLE),
     RecordKind::Known(kind::DISABLE),
     RecordKind::Known(kind::DGVL_AREA),
     RecordKind::Known(kind::OWN_MID),
     RecordKind::Known(kind::INDICATION),
     RecordKind::Known(kind::OLD_REQUEST),
     RecordKind::Known(kind::REQUEST),
+    RecordKind::Known(kind::ENABLE),
     RecordKind::Unknown,
     RecordKind::Unreadable,
 ];
@@ -87,7 +89,7 @@ fn smallest_table(random: Random) -> Day {
 /// Each kind of record before the start, refused starts, and second starts.
 fn starts(random: Random, maximum: u64) -> Day {
     let mut day = Day::within(DISPATCHLIST, random, 20);
-    for kind in kind::ENABLE..=kind::REQUEST {
+    for kind in kind::OLD_ENABLE..=kind::LAST {
         day.any_of_kind(kind);
     }
     let largest = day.limits().largest_maximum;
@@ -134,6 +136,20 @@ fn next_hops(random: Random, maximum: u64) -> Day {
     for index in [0, 1, 2, maximum - 2, maximum - 1, maximum, maximum + 1] {
         hops::request_with_each(&mut day, index);
     }
+    day
+}
+
+/// Stops with several prefixes where the rest of the table is behind them and before.
+fn several_prefixes(random: Random, maximum: u64) -> Day {
+    let (mut day, _) = started(random, maximum);
+    for _ in 0..several::ROOM {
+        day.disable_one();
+    }
+    several::show_lists(&mut day);
+    for _ in 0..several::ROOM {
+        day.disable_one();
+    }
+    several::show_arrivals(&mut day);
     day
 }
 

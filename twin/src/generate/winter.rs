@@ -1,5 +1,6 @@
-//! Old day files, of last winter: kind 2 was in use then, and is retired now
-//! (`kind-retired`). So their first starts are refused, and some of their stops.
+//! Old day files, of last winter: interface kind 2 was in use then, and is retired now
+//! (`kind-retired`). So their first starts are refused, and some of their stops, which
+//! stand in records of kind 2.
 
 use super::day::{Day, Weights};
 use super::random::Random;
@@ -10,7 +11,7 @@ use crate::link::{InterfaceNumbers, RETIRED_KIND};
 use crate::table::StopSettings;
 
 /// More enables than disables, so that a small table gets full.
-const AMONG_THE_STOPS: Weights = [0, 4, 2, 1, 1, 6, 4, 2];
+const AMONG_THE_STOPS: Weights = [0, 4, 2, 1, 1, 6, 4, 2, 1];
 
 /// Starts of kind 2 with records behind them, which are 16; then a good start, and
 /// the day goes on.
@@ -45,12 +46,12 @@ fn old_start(day: &mut Day) {
 /// A stop of kind 2, what arrives for its area, and most often the same stop with a
 /// kind that links can have: the refusal left area, prefix and index unused.
 fn old_stop(day: &mut Day) {
-    let (area, prefix) = day.area_and_prefix();
+    let (area, prefixes) = day.area_and_prefix();
     let flag = values::flag(&mut day.random, 10);
     let interface = InterfaceNumbers { kind: RETIRED_KIND, flag };
-    day.add(&Call::Enable(StopSettings { area, prefix, interface }));
+    day.add_old_enable(&StopSettings { area, prefixes, interface });
     day.indicate_to_area(GEO_BROADCAST, area);
     if day.random.percent(60) {
-        day.enable_with(area, prefix);
+        day.enable_with(area, prefixes.listed());
     }
 }

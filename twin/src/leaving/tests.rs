@@ -3,7 +3,7 @@ use crate::area::CIRCLE;
 use crate::link::InterfaceNumbers;
 use crate::mid::{link_local_address, LARGEST_MID};
 use crate::packet::{fault_place, Address, LOOPBACK, UNSPECIFIED};
-use crate::prefix::NO_PREFIX;
+use crate::prefix_list::NO_PREFIXES;
 use crate::reply::Refusal::*;
 use crate::table::{StartSettings, StopSettings};
 
@@ -38,7 +38,7 @@ fn table(kind: u64, flag: u64) -> Table {
     let settings = StartSettings { own_mid: 1, maximum: 5, tvl: lan, dgvl: lan };
     let mut table = Table::start(&settings).1;
     for latitude in [2, 3] {
-        let settings = StopSettings { area: area(latitude), prefix: NO_PREFIX, interface: lan };
+        let settings = StopSettings { area: area(latitude), prefixes: NO_PREFIXES, interface: lan };
         table.enable(&settings).unwrap();
     }
     let interface = InterfaceNumbers { kind, flag }.check().unwrap();

@@ -132,11 +132,11 @@ fn records_past_the_limit_count_as_missing() {
     let records = [3, 0].repeat(65_535);
     let text = listing(DISPATCHLIST, &records);
     assert_eq!(last_line(&text), "65535 16 - 0");
-    for (last, line) in [([3, 1], "65536 16 - 0"), ([9, 0], "65536 14 - 131070")] {
+    for (last, line) in [([3, 1], "65536 16 - 0"), ([10, 0], "65536 14 - 131070")] {
         let most = [&records[..], &last].concat();
         let whole = listing(DISPATCHLIST, &most);
         assert_eq!(last_line(&whole), line);
-        for behind in [&[3, 0][..], &[9], &[3], &[0xFF; 200_000]] {
+        for behind in [&[3, 0][..], &[10], &[3], &[0xFF; 200_000]] {
             assert_eq!(listing(DISPATCHLIST, &[&most, behind].concat()), whole);
         }
     }
@@ -160,7 +160,8 @@ fn kinds_of_lines() {
         (&[7], RecordKind::Known(7)),
         (&[0], RecordKind::Unknown),
         (&[8], RecordKind::Known(8)),
-        (&[9], RecordKind::Unknown),
+        (&[9], RecordKind::Known(9)),
+        (&[10], RecordKind::Unknown),
         (&[0x83, 0], RecordKind::Unreadable),
         (&[0x83], RecordKind::Unreadable),
     ] {

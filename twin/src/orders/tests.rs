@@ -37,7 +37,7 @@ fn every_order_is_there_but_for_the_impossible() {
 
 #[test]
 fn the_number_of_situations() {
-    assert_eq!(situations().len(), 1 + 20 + 23 + 2 * 33 + 3 * CAUSES.len());
+    assert_eq!(situations().len(), 1 + 2 * 20 + 23 + 2 * 33 + 3 * CAUSES.len());
 }
 
 /// Whether one of the situations is that order of the record.

@@ -1,5 +1,6 @@
 use super::*;
 use crate::numbers::number_bytes;
+use crate::prefix::NO_PREFIX;
 
 /// The area of the worked example, `listing-example`.
 const AREA_BYTES: [u8; 14] =
@@ -36,8 +37,26 @@ fn assert_broken_when_cut(whole: &[u8]) {
     }
 }
 
-fn enable(prefix: &[u8]) -> Vec<u8> {
+/// Of kind 2.
+fn old_enable(prefix: &[u8]) -> Vec<u8> {
     [&[2], &area_bytes()[..], prefix, &[1, 0]].concat()
+}
+
+/// Of kind 9.
+fn enable(list: &[u8]) -> Vec<u8> {
+    [&[9], &area_bytes()[..], list, &[1, 0]].concat()
+}
+
+fn stop(prefixes: &[Prefix]) -> Call<'static> {
+    let interface = InterfaceNumbers { kind: 1, flag: 0 };
+    Call::Enable(StopSettings { area: area(), prefixes: PrefixList::of(prefixes), interface })
+}
+
+/// 2010::/12.
+fn prefix() -> Prefix {
+    let mut bytes = [0; 16];
+    bytes[..2].copy_from_slice(&[0x20, 0x10]);
+    Prefix { length: 12, bytes }
 }
 
 fn wide(number: u64) -> Vec<u8> {
@@ -58,32 +77,64 @@ fn start_records() {
     assert_broken_when_cut(&bytes);
 }
 
+/// `record-list`: one prefix, or none where the length is 0.
 #[test]
-fn enable_records() {
-    let bytes = enable(&[12, 0x20, 0x10]);
-    let mut prefix = Prefix { length: 12, bytes: [0; 16] };
-    prefix.bytes[..2].copy_from_slice(&[0x20, 0x10]);
-    let interface = InterfaceNumbers { kind: 1, flag: 0 };
-    let expected = StopSettings { area: area(), prefix, interface };
-    assert_eq!(read(&bytes), Call::Enable(expected));
+fn enable_records_of_kind_2() {
+    let bytes = old_enable(&[12, 0x20, 0x10]);
+    assert_eq!(read(&bytes), stop(&[prefix()]));
     assert_broken_when_cut(&bytes);
-    assert_broken_when_cut(&enable(&[0]));
+    assert_eq!(read(&old_enable(&[0])), stop(&[]));
+    assert_broken_when_cut(&old_enable(&[0]));
     let longest = [&[0x80, 0x01][..], &[7; 16]].concat();
-    assert_broken_when_cut(&enable(&longest));
+    assert_broken_when_cut(&old_enable(&longest));
+}
+
+#[test]
+fn enable_records_of_kind_9() {
+    let longest = Prefix { length: 128, bytes: [7; 16] };
+    let bytes_of_longest = [&[0x80, 0x01][..], &[7; 16]].concat();
+    for (list, prefixes) in [
+        (vec![0], &[][..]),
+        (vec![1, 12, 0x20, 0x10], &[prefix()]),
+        ([&[2, 12, 0x20, 0x10], &bytes_of_longest[..]].concat(), &[prefix(), longest]),
+        // A listed length 0 is read as one (`record-not-broken`).
+        (vec![1, 0], &[NO_PREFIX]),
+        (vec![3, 0, 12, 0x20, 0x10, 0], &[NO_PREFIX, prefix(), NO_PREFIX]),
+        ([&[4][..], &bytes_of_longest.repeat(4)].concat(), &[longest; 4]),
+    ] {
+        assert_eq!(read(&enable(&list)), stop(prefixes));
+        assert_broken_when_cut(&enable(&list));
+    }
+}
+
+#[test]
+fn a_count_of_prefixes_above_four() {
+    for count in [5, 6, 127, 128, 255, 256, 257, 260, u64::MAX] {
+        let list = [wide(count), [12, 0x20, 0x10].repeat(5)].concat();
+        assert_broken(&enable(&list));
+        assert_broken(&enable(&[wide(count), vec![0; 300]].concat()));
+    }
 }
 
 #[test]
 fn a_prefix_length_above_128() {
     for length in [129, 130, 136, 255, 256, 320, u64::MAX] {
-        let prefix = [wide(length), vec![0; 40]].concat();
-        assert_broken(&enable(&prefix));
+        let bad = [wide(length), vec![0; 40]].concat();
+        assert_broken(&old_enable(&bad));
+        for place in 0..4 {
+            let before = [12, 0x20, 0x10].repeat(place);
+            let list = [&[4], &before[..], &bad, &[12, 0x20, 0x10]].concat();
+            assert_broken(&enable(&list));
+        }
     }
 }
 
 #[test]
 fn a_bit_past_the_length_is_not_broken() {
-    let bytes = enable(&[9, 0x20, 0x01]);
-    assert!(matches!(read(&bytes), Call::Enable(settings) if !settings.prefix.is_good()));
+    let prefix = [9, 0x20, 0x01];
+    for bytes in [old_enable(&prefix), enable(&[&[1], &prefix[..]].concat())] {
+        assert!(matches!(read(&bytes), Call::Enable(settings) if !settings.prefixes.is_good()));
+    }
 }
 
 #[test]
@@ -232,8 +283,8 @@ fn a_packet_above_1280_bytes_is_a_whole_record() {
 }
 
 #[test]
-fn record_kinds_outside_1_to_8() {
-    for kind in [0, 9, 10, 127, 128, 257, 263, 264, 1 << 32 | 8, u64::MAX] {
+fn record_kinds_outside_1_to_9() {
+    for kind in [0, 10, 11, 127, 128, 257, 264, 265, 1 << 32 | 9, u64::MAX] {
         assert_broken(&[wide(kind), vec![1; 60]].concat());
     }
 }

@@ -7,7 +7,7 @@ use crate::link::InterfaceNumbers;
 use crate::listing::{lines, RecordKind};
 use crate::mid::link_local_address;
 use crate::packet::Address;
-use crate::prefix::NO_PREFIX;
+use crate::prefix_list::NO_PREFIXES;
 use crate::table::{StartSettings, StopSettings};
 use crate::write::record_bytes;
 
@@ -16,7 +16,7 @@ const START: Call =
     Call::Start(StartSettings { own_mid: 0x0200_0000_0001, maximum: 8, tvl: LAN, dgvl: LAN });
 const AREA: Area =
     Area { shape: RECTANGLE, latitude: -12, longitude: 134_348_000, a: 120, b: 40, angle: 35 };
-const STOP: Call = Call::Enable(StopSettings { area: AREA, prefix: NO_PREFIX, interface: LAN });
+const STOP: Call = Call::Enable(StopSettings { area: AREA, prefixes: NO_PREFIXES, interface: LAN });
 const TO_ALL: Address = [0xFF, 2, 0, 0, 0, 0, 0, 0, 0, 0, 0, 0, 0, 0, 0, 1];
 
 fn packet(destination: Address) -> Vec<u8> {

@@ -1,7 +1,7 @@
 use super::*;
 use crate::area::{CIRCLE, RECTANGLE};
 use crate::mid::LARGEST_MID;
-use crate::prefix::NO_PREFIX;
+use crate::prefix::{Prefix, NO_PREFIX};
 use crate::reply::Refusal::*;
 
 const LAN: InterfaceNumbers = InterfaceNumbers { kind: 1, flag: 1 };
@@ -30,8 +30,10 @@ fn prefix(first: u8, second: u8, length: u64) -> Prefix {
     Prefix { length, bytes }
 }
 
+/// With one prefix, or with none for length 0.
 fn stop(latitude: i128, prefix: Prefix) -> StopSettings {
-    StopSettings { area: area(latitude), prefix, interface: LAN }
+    let prefixes = PrefixList::of_one_or_none(prefix);
+    StopSettings { area: area(latitude), prefixes, interface: LAN }
 }
 
 /// The call is refused with this number and leaves the table as it was.
@@ -139,6 +141,11 @@ fn kinds_1_and_3_are_started_and_enabled() {
     }
 }
 
+/// The second is reserved, and the third overlaps what 2000::/8 overlaps.
+fn one_bad_of_three() -> PrefixList {
+    PrefixList::of(&[prefix(0x30, 0, 8), prefix(0xFF, 0, 8), prefix(0x20, 0x80, 9)])
+}
+
 #[test]
 fn refusals_of_enable_come_in_order() {
     let mut table = table(2);
@@ -148,17 +155,24 @@ fn refusals_of_enable_come_in_order() {
     // Each settings has every later fault too; the table is full as well.
     let overlapping = stop(1, prefix(0x20, 0x80, 9));
     let equal = StopSettings { area: area(0), ..overlapping };
-    let bad_prefix = StopSettings { prefix: prefix(0xFF, 0, 8), ..equal };
-    let bad_area = StopSettings { area: Area { a: 0, ..area(0) }, ..bad_prefix };
+    let bad_prefix = StopSettings { prefixes: one_bad_of_three(), ..equal };
+    let too_many =
+        StopSettings { prefixes: PrefixList { count: 5, ..one_bad_of_three() }, ..equal };
+    let bad_area = StopSettings { area: Area { a: 0, ..area(0) }, ..too_many };
     let retired = StopSettings { interface: RETIRED, ..bad_area };
     let bad_flag = StopSettings { interface: RETIRED_WITH_BAD_FLAG, ..retired };
     assert_enable_refused(&mut table, &bad_flag, ValueOutsideItsList);
     assert_enable_refused(&mut table, &retired, RetiredKind);
     assert_enable_refused(&mut table, &bad_area, AreaNotGood);
+    assert_enable_refused(&mut table, &too_many, TooManyPrefixes);
     assert_enable_refused(&mut table, &bad_prefix, PrefixNotGood);
     assert_enable_refused(&mut table, &equal, AreaEqualToAStops);
-    assert_enable_refused(&mut table, &overlapping, PrefixOverlapsAStops);
+    assert_enable_refused(&mut table, &overlapping, PrefixOverlapsAnother);
     assert_enable_refused(&mut table, &stop(1, prefix(0x21, 0, 8)), NoIndexFree);
+}
+
+fn twice(prefix: Prefix) -> PrefixList {
+    PrefixList::of(&[prefix, prefix])
 }
 
 /// With each later refusal kind 2 is 30 (`edge-retired`, enables).
@@ -175,12 +189,18 @@ fn each_refusal_of_enable_alone_and_with_kind_2() {
         (StopSettings { interface: RETIRED_WITH_BAD_FLAG, ..good }, ValueOutsideItsList),
         (of_kind_2(good), RetiredKind),
         (StopSettings { area: Area { angle: 360, ..area(1) }, ..good }, AreaNotGood),
-        (StopSettings { prefix: long_prefix, ..good }, PrefixNotGood),
-        (StopSettings { prefix: prefix(0x21, 1, 8), ..good }, PrefixNotGood),
+        (
+            StopSettings { prefixes: PrefixList { count: 5, ..good.prefixes }, ..good },
+            TooManyPrefixes,
+        ),
+        (stop(1, long_prefix), PrefixNotGood),
+        (stop(1, prefix(0x21, 1, 8)), PrefixNotGood),
+        (StopSettings { prefixes: PrefixList::of(&[NO_PREFIX]), ..good }, PrefixNotGood),
         (StopSettings { area: area(0), ..good }, AreaEqualToAStops),
-        (StopSettings { prefix: prefix(0x20, 0, 7), ..good }, PrefixOverlapsAStops),
-        (StopSettings { prefix: prefix(0x20, 0, 8), ..good }, PrefixOverlapsAStops),
-        (StopSettings { prefix: prefix(0x20, 1, 16), ..good }, PrefixOverlapsAStops),
+        (stop(1, prefix(0x20, 0, 7)), PrefixOverlapsAnother),
+        (stop(1, prefix(0x20, 0, 8)), PrefixOverlapsAnother),
+        (stop(1, prefix(0x20, 1, 16)), PrefixOverlapsAnother),
+        (StopSettings { prefixes: twice(prefix(0x21, 0, 8)), ..good }, PrefixOverlapsAnother),
     ] {
         assert_enable_refused(&mut table, &settings, refusal);
         assert_enable_refused(&mut table, &of_kind_2(settings), RetiredKind);
@@ -247,10 +267,10 @@ fn thousands_of_stops() {
     // Against the last of them; 4 comes before 5, in whichever place the two stand.
     let of_last = stop(4_093, prefix(0x20, 2, 16));
     let by_last = stop(1, prefix(0x2F, 0xFD, 16));
-    for refused in [&of_last, &stop(2, by_last.prefix)] {
+    for refused in [&of_last, &StopSettings { area: area(2), ..by_last }] {
         assert_enable_refused(&mut table, refused, AreaEqualToAStops);
     }
-    assert_enable_refused(&mut table, &by_last, PrefixOverlapsAStops);
+    assert_enable_refused(&mut table, &by_last, PrefixOverlapsAnother);
     for index in [4_094, 4_096 + 2, 65_536 + 2, u64::MAX] {
         assert_eq!(table.disable(index), Err(NoEnabledLink));
         assert_eq!(table.interface(index), Err(NoEnabledLink));

@@ -41,6 +41,15 @@ const ENABLES: &[Row] = &[
     }),
     (0, "area of a disabled one of thousands", |one| one.has_area_of_a_disabled()),
     (0, "prefix of a disabled one of thousands", |one| one.has_prefix_of_a_disabled()),
+];
+
+const OLD_ENABLES: &[Row] = &[
+    (0, "at 256 or above", |one| one.answer.link >= Some(256)),
+    (6, "maximum 4,093", |one| one.maximum_is(4_093, 4_093)),
+];
+
+/// Enables of both kinds.
+const REFUSED_ENABLES: &[Row] = &[
     (4, "by the first of thousands", |one| one.place_of_area() == Some(First)),
     (4, "by one between thousands", |one| one.place_of_area() == Some(Between)),
     (4, "by the last of thousands", |one| one.place_of_area() == Some(Last)),
@@ -58,6 +67,25 @@ const ENABLES: &[Row] = &[
     (5, "by the last of thousands", |one| one.place_of_prefix() == Some(Last)),
     (5, "by the last, an index unused before it", |one| {
         one.place_of_prefix() == Some(Last) && one.has_gap_before_the_last()
+    }),
+];
+
+/// `slip-first-prefix`.
+const ENABLES_OF_SEVERAL: &[Row] = &[
+    (4, "by the last, 2nd prefix by the first's 2nd", |one| {
+        one.place_of_area() == Some(Last) && one.place_of_second() == Some(First)
+    }),
+    (4, "by the first, 2nd prefix by the last's 2nd", |one| {
+        one.place_of_area() == Some(First) && one.place_of_second() == Some(Last)
+    }),
+    (5, "2nd prefix by the 2nd of the first of thousands", |one| {
+        one.place_of_second() == Some(First)
+    }),
+    (5, "2nd prefix by the 2nd of one between thousands", |one| {
+        one.place_of_second() == Some(Between)
+    }),
+    (5, "2nd prefix by the 2nd of the last of thousands", |one| {
+        one.place_of_second() == Some(Last)
     }),
 ];
 
@@ -94,6 +122,31 @@ const INDICATIONS: &[Row] = &[
     (9, "packet of 65,536 bytes or more", |one| one.packet_length() >= 65_536),
 ];
 
+/// `slip-first-prefix`.
+const INDICATIONS_FOR_SEVERAL: &[Row] = &[
+    (0, "destination in the 2nd of the first of thousands", |one| {
+        one.goes_by(Some(First), None) && one.is_held_by_second(0)
+    }),
+    (0, "destination in the 2nd of one between thousands", |one| {
+        one.goes_by(Some(Between), None) && one.is_held_by_second(0)
+    }),
+    (0, "destination in the 2nd of the last of thousands", |one| {
+        one.goes_by(Some(Last), None) && one.is_held_by_second(0)
+    }),
+    (0, "source in the 2nd of the first of thousands", |one| {
+        one.goes_by(None, Some(First)) && one.is_held_by_second(1)
+    }),
+    (0, "source in the 2nd of one between thousands", |one| {
+        one.goes_by(None, Some(Between)) && one.is_held_by_second(1)
+    }),
+    (0, "source in the 2nd of the last of thousands", |one| {
+        one.goes_by(None, Some(Last)) && one.is_held_by_second(1)
+    }),
+    (0, "destination in the 2nd of the last, source of the first", |one| {
+        one.goes_by(Some(Last), Some(First)) && one.is_held_by_second(0)
+    }),
+];
+
 /// Disables and requests of both kinds.
 const AT_AN_INDEX: &[Row] = &[
     (0, "the first of thousands", |one| one.place() == Some(First)),
@@ -118,15 +171,20 @@ const REQUESTS: &[Row] =
     &[(9, "packet of 65,536 bytes or more", |one| one.packet_length() >= 65_536)];
 
 /// The rows of each kind of record.
-const OF_KINDS: [(u64, &[Row]); 8] = [
+const OF_KINDS: [(u64, &[Row]); 13] = [
     (kind::START, STARTS),
-    (kind::ENABLE, ENABLES),
+    (kind::OLD_ENABLE, OLD_ENABLES),
+    (kind::OLD_ENABLE, REFUSED_ENABLES),
     (kind::DISABLE, AT_AN_INDEX),
     (kind::INDICATION, INDICATIONS),
+    (kind::INDICATION, INDICATIONS_FOR_SEVERAL),
     (kind::OLD_REQUEST, AT_AN_INDEX),
     (kind::OLD_REQUEST, REQUESTS),
     (kind::REQUEST, AT_AN_INDEX),
     (kind::REQUEST, REQUESTS),
+    (kind::ENABLE, ENABLES),
+    (kind::ENABLE, REFUSED_ENABLES),
+    (kind::ENABLE, ENABLES_OF_SEVERAL),
 ];
 
 /// How often each row was seen.

@@ -1,3 +1,5 @@
+mod several;
+
 use super::*;
 use crate::arriving::Indication;
 use crate::call::GEO_BROADCAST;
@@ -29,7 +31,11 @@ fn prefix(index: u64) -> Prefix {
 }
 
 fn enable(area: Area, prefix: Prefix) -> Call<'static> {
-    Call::Enable(StopSettings { area, prefix, interface: LAN })
+    enable_list(area, PrefixList::of_one_or_none(prefix).listed())
+}
+
+fn enable_list(area: Area, prefixes: &[Prefix]) -> Call<'static> {
+    Call::Enable(StopSettings { area, prefixes: PrefixList::of(prefixes), interface: LAN })
 }
 
 /// A table of this maximum in which each index is enabled but these.
@@ -50,7 +56,7 @@ fn seen_behind(gone: &[u64], replay: &Replay, call: &Call) -> Vec<String> {
     let answer = replay.clone().call(call);
     let stop = |&index: &u64| Stop {
         area: area(index),
-        prefix: prefix(index),
+        prefixes: PrefixList::of(&[prefix(index)]),
         interface: replay.table().unwrap().tvl,
     };
     let mut counts = Counts { gone: gone.iter().map(stop).collect(), ..Counts::default() };

@@ -2,6 +2,7 @@ use super::*;
 use crate::call::{GEO_ANYCAST, GEO_BROADCAST, GEO_UNICAST, TSB};
 use crate::packet::UNSPECIFIED;
 use crate::prefix::NO_PREFIX;
+use crate::prefix_list::{MOST_PREFIXES, NO_PREFIXES};
 use crate::read::read_record;
 use crate::table::{StartSettings, StopSettings};
 
@@ -9,7 +10,7 @@ const AREA: Area = Area { shape: 1, latitude: -7, longitude: 8, a: 9, b: 10, ang
 const WIDE: InterfaceNumbers = InterfaceNumbers { kind: u64::MAX, flag: 2 };
 const LAN: InterfaceNumbers = InterfaceNumbers { kind: 1, flag: 1 };
 const RETIRED: InterfaceNumbers = InterfaceNumbers { kind: 2, flag: 0 };
-const STOP: StopSettings = StopSettings { area: AREA, prefix: NO_PREFIX, interface: LAN };
+const STOP: StopSettings = StopSettings { area: AREA, prefixes: NO_PREFIXES, interface: LAN };
 
 const UNICAST: Indication<'static> = Indication {
     transport: GEO_UNICAST,
@@ -85,9 +86,75 @@ fn prefixes_of_every_length_read_back() {
     for length in 0..=128 {
         let mut bytes = [0; 16];
         bytes[..bytes_needed(length)].fill(0xFF);
-        let prefix = Prefix { length, bytes };
-        assert_reads_back(Call::Enable(StopSettings { prefix, ..STOP }));
+        assert_reads_back(stop_with(&[Prefix { length, bytes }]));
+        assert_reads_back(stop_with(&[PREFIX, Prefix { length, bytes }, NO_PREFIX, PREFIX]));
     }
+}
+
+/// 2010::/12.
+const PREFIX: Prefix =
+    Prefix { length: 12, bytes: [0x20, 0x10, 0, 0, 0, 0, 0, 0, 0, 0, 0, 0, 0, 0, 0, 0] };
+
+fn stop_with(prefixes: &[Prefix]) -> Call<'static> {
+    Call::Enable(StopSettings { prefixes: PrefixList::of(prefixes), ..STOP })
+}
+
+/// `record-enable`, as kind 9 alone (`record-list`).
+#[test]
+fn the_records_of_an_enable() {
+    let area = [1, 0xF9, 0xD1, 0x93, 0xAD, 0x03, 0x88, 0xA4, 0xA7, 0xDA, 0x06, 9, 10, 11];
+    for (prefixes, list) in [
+        (&[][..], &[0][..]),
+        (&[PREFIX], &[1, 12, 0x20, 0x10]),
+        (&[NO_PREFIX, PREFIX], &[2, 0, 12, 0x20, 0x10]),
+        (&[PREFIX, PREFIX, NO_PREFIX], &[3, 12, 0x20, 0x10, 12, 0x20, 0x10, 0]),
+    ] {
+        let expected = [&[9], &area[..], list, &[1, 1]].concat();
+        assert_eq!(record_bytes(&stop_with(prefixes)).unwrap(), expected);
+    }
+}
+
+#[test]
+fn an_enable_that_was_read_as_kind_2_is_written_as_kind_9() {
+    for (old, list) in [(&[0][..], &[0][..]), (&[12, 0x20, 0x10], &[1, 12, 0x20, 0x10])] {
+        let record =
+            |kind: u8, list: &[u8]| [&[kind, 0, 0, 0, 1, 0, 0], list, &[1, 1][..]].concat();
+        let old = record(2, old);
+        let (call, _) = read_record(&old, 0).unwrap();
+        assert_eq!(record_bytes(&call).unwrap(), record(9, list));
+        assert_reads_back(call);
+    }
+}
+
+/// `writer-back`.
+#[test]
+fn what_stands_past_the_count_is_not_written_and_reads_back_blank() {
+    let bad = Prefix { length: 255, bytes: [0xFF; 16] };
+    for count in 0..MOST_PREFIXES {
+        let mut places = [bad; MOST_PREFIXES];
+        places[..count].fill(PREFIX);
+        let prefixes = PrefixList { count: count as u8, places };
+        let record = record_bytes(&Call::Enable(StopSettings { prefixes, ..STOP })).unwrap();
+        let blank = stop_with(&vec![PREFIX; count]);
+        assert_eq!(read_record(&record, 0), Ok((blank, record.len())));
+    }
+}
+
+#[test]
+fn no_form_for_a_count_above_four() {
+    for count in [5, 6, 255] {
+        let prefixes = PrefixList { count, places: [PREFIX; MOST_PREFIXES] };
+        assert_no_form(Call::Enable(StopSettings { prefixes, ..STOP }));
+    }
+}
+
+/// The prefix at each place of a list of four, the others good.
+fn at_each_place(prefix: Prefix) -> impl Iterator<Item = Call<'static>> {
+    (0..MOST_PREFIXES).map(move |place| {
+        let mut prefixes = [PREFIX; MOST_PREFIXES];
+        prefixes[place] = prefix;
+        stop_with(&prefixes)
+    })
 }
 
 fn assert_no_form(call: Call) {
@@ -114,8 +181,7 @@ fn no_form_for_a_latitude_or_longitude_below_its_bound() {
 #[test]
 fn no_form_for_a_prefix_length_above_128() {
     for length in [129, 136, u64::MAX] {
-        let prefix = Prefix { length, bytes: [0; 16] };
-        assert_no_form(Call::Enable(StopSettings { prefix, ..STOP }));
+        at_each_place(Prefix { length, bytes: [0; 16] }).for_each(assert_no_form);
     }
 }
 
@@ -125,8 +191,7 @@ fn no_form_for_a_prefix_byte_past_those_needed() {
         for place in [bytes_needed(length), 15] {
             let mut bytes = [0; 16];
             bytes[place] = 1;
-            let prefix = Prefix { length, bytes };
-            assert_no_form(Call::Enable(StopSettings { prefix, ..STOP }));
+            at_each_place(Prefix { length, bytes }).for_each(assert_no_form);
         }
     }
 }

@@ -11,7 +11,8 @@ use borrow.Author.Tests.{eqb-true}
 use Rattle.octets.proofs.Laws.Digits.{Below, below-part}
 use Rattle.octets.proofs.Laws.Tests.{clash}
 use Rattle.area.specs.declared.Area.{Area}
-use Rattle.prefix.specs.Prefix.{ofAddress, overlap}
+use Rattle.prefix.specs.Prefix.{ofAddress}
+use Rattle.prefixes.specs.Prefixes.{meets}
 use Rattle.ipv6.specs.Packet.{source, destination}
 use Rattle.links.specs.declared.Chosen.{Chosen}
 use Rattle.links.specs.declared.Head.{Head}
@@ -79,7 +80,7 @@ found-link t q other = go (any q (counted t))
     go false = refl
 
 -- who asks for what overlaps an address alone asks for what reaches it
-same-question : (a : List ℕ) → Below 256 a → _≡_ {A = Settings → Bool} (λ s. overlap (s .prefix) (ofAddress a)) (λ s. reaches s a)
+same-question : (a : List ℕ) → Below 256 a → _≡_ {A = Settings → Bool} (λ s. meets (s .prefixes) (ofAddress a)) (λ s. reaches s a)
 same-question a bytes i s = sym (reaches-as-overlap s a bytes) i
 
 -- The four lines, by the transport

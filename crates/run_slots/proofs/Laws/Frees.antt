@@ -1,5 +1,6 @@
 -- Where a function returns and each of its locals is room, all of them are freed in one step. It says nothing of the crate.
 --     rooms        the locals of an environment as they stand in a context, the last first
+--     freed        the locals stand behind any entries, which are left
 --     frees-all    the context is its first n entries and then the rooms, which `refl` shows:  only the first n entries are left
 -- Assumes `Given`.
 use mathlib.Core.Path.{_≡_, sym, subst}
@@ -32,7 +33,7 @@ module _ {M : Type 1} (𝓤 : URA M) (H : Heap 𝓤) where
       (via 𝓤 (sep 𝓤 (⋆ 𝓤 H A D) (⋆ 𝓤 H A (Γ ++ R))) (comm∗ 𝓤 (⋆ 𝓤 H A (Γ ++ R)) (⋆ 𝓤 H A D)) (++⊢ 𝓤 H A D (Γ ++ R))))))
 
 module _ {M : Type 1} {𝓤 : URA M} {H : Heap 𝓤} {A : Atoms 𝓤} {K : Type 0} {W : Given 𝓤 H A} {g : Goal 𝓤 H} where
-  freed : K → (Γ : List (Item 𝓤)) (E : Env 𝓤 H) → Seq K W Γ g → Seq K W (Γ ++ rooms 𝓤 H E) (frees E g)
+  pub freed : K → (Γ : List (Item 𝓤)) (E : Env 𝓤 H) → Seq K W Γ g → Seq K W (Γ ++ rooms 𝓤 H E) (frees E g)
   freed t Γ [] s = free0 t $ subst (λ (Δ : List (Item 𝓤)). Seq K W Δ g) (sym (append-nil Γ)) s
   freed t Γ (e ∷ E) s = by t (via 𝓤 _ (last-first 𝓤 H A Γ (rooms 𝓤 H E) (‵ (froom (e .0) (e .1) zero) ∷ ‵ (fdies (e .0) (e .1)) ∷ [])) ((free1 t $ freed t Γ E s) .prf))
 

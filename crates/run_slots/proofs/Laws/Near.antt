@@ -4,7 +4,7 @@ use native.Mathlib.Omega.{arith}
 
 -- how many bytes a record takes: the one place that knows it
 abbrev pub size : ℕ
-size = 56
+size = 104
 
 pub near : {n i : ℕ} → n * size < 2 ^ 63 → i < n → i * size < 2 ^ 64
 near h l = omega (arith, h, l)

@@ -1,10 +1,10 @@
 -- `run_slots::record_at` meets its contract: a walk of its MIR, by hand, with a `return` inside a branch, and a call of a covered function behind it.
 use lib.Dec.{ltb→lt, nltb→le}
-use Rattle.run_slots.proofs.Laws.Walk.{_≡_, refl, sym, _∙_, ℕ, _<_, _^_, List, [], _∷_, length, getD, URA, fullShare, named, imm, w64, tyInt, tyBool, tyPtr, tyRef, Val, vint, vptr, SProp, ent, emp, via, fst∗, id⊢, Lft, GName, Share, ftrue, fat, flft, Memory, Routine, Heap, WpFn, Tables, Atoms, Fun, givenOf, tables, tablesOf, Given, atRet, ‵, _⊛_, ⋆, _$_, _∵_, !, qed, by, move, keep, split, join, rewrite, fsplit, fjoin, suffices, frame, done, whole, sub, look-in, look, look-raw, init, forget, stop, hop, fld, from, load, lit, of-opd, no-more, bin, assigns, land, first, branches, skips, exec, returns, returns-within, enter, alloc1, alloc0, params1, pass1, pass0, WpFn-mono, owns, Is, shows, uint-vals, uint-tells, usize, RefT, pointee, sliceTy, sliceVal, ShrSlice, Room, slice-vals, shr-slice-tells, place-is, elem-out, elem-back, looks-slice, shuts-slice, plain, nothing, owned, Contract, Triple, Vals, onEntry, tripleOf, entered, cited, says, Stays, stay-none, stay-none-slice, walkOf, ends-at, walked, goes-none, goes-none-slice, walk-meets, yes}
+use Rattle.run_slots.proofs.Laws.Walk.{_≡_, refl, sym, _∙_, ℕ, _<_, _^_, List, [], _∷_, length, getD, URA, named, imm, w64, tyInt, tyBool, tyPtr, tyRef, Val, vint, SProp, ent, emp, via, fst∗, id⊢, Lft, GName, Share, ftrue, flft, Memory, Routine, Heap, WpFn, Tables, Atoms, Fun, givenOf, tables, tablesOf, Given, atRet, ‵, _⊛_, ⋆, _$_, _∵_, !, qed, by, move, keep, split, join, fsplit, fjoin, suffices, frame, done, whole, sub, look-in, look, init, forget, stop, fld, from, load, of-opd, no-more, bin, assigns, land, first, branches, skips, exec, returns, returns-within, enter, alloc1, alloc0, params1, pass1, pass0, WpFn-mono, owns, Is, shows, uint-vals, uint-tells, usize, RefT, pointee, sliceTy, sliceVal, ShrSlice, Room, slice-vals, shr-slice-tells, looks-slice, shuts-slice, plain, nothing, owned, Contract, Triple, Vals, onEntry, tripleOf, entered, cited, says, Stays, stay-none, stay-none-slice, walkOf, ends-at, walked, goes-none, goes-none-slice, walk-meets, yes}
 use Rattle.run_slots.proofs.Laws.Data.{asks}
 use Rattle.run_slots.proofs.Laws.Frees.{frees-all}
-use Rattle.run_slots.proofs.Laws.Near.{size, near}
 use Rattle.run_slots.proofs.Laws.Sorts.{slot}
+use Rattle.run_slots.proofs.Laws.Reads.{reads}
 use Rattle.run_slots.proofs.Laws.Past.{getD-past}
 use denote.Struct.Laws as LL
 use Rattle.links.specs.declared.Slot.{Slot}
@@ -58,15 +58,9 @@ module _ {M : Type 1} (𝓤 : URA M) (H : Heap 𝓤) (A : Atoms 𝓤) (W : Given
         move ! (17 ∷ []) $ fsplit ! $ fsplit ! $ move ! (1 ∷ []) $ fsplit ! $ move ! (20 ∷ []) $ split ! $ move ! (3 ∷ 0 ∷ []) $
         -- [the fractured borrow; the token; true; res; run's fact; place's; _7; …; _6; …; _5; …; _4; …; _3; …; _2; …; _1; …; room for _0; …]
         first ! $ branches ! (load ! (from ! (stop !)) (look ! 12 refl))
-        (λ held. let l = ltb→lt i (length ys) held in let fits = near (gn .1) l in
-        assigns ! (bin ! (load ! (from ! (stop !)) (look ! 16 refl)) (lit ! tt) (record { fits = fits })) (from ! (stop !)) (init ! 10 refl (tt, record { fits = fits })) $
-        assigns ! (bin ! (load ! (from ! (fld ! refl (stop !))) (look-in ! 18 (sub ! 0 refl (whole !)))) (load ! (from ! (stop !)) (look ! 10 refl)) tt) (from ! (stop !)) (init ! 8 refl (tt, tt)) $
-        rewrite ! 8 (λ (p : ℕ). ‵ (fat fullShare tyPtr l₆ 0 (vptr b p))) (sym (place-is size o i)) refl $
+        (λ held. let r = getD ys i free in let l = ltb→lt i (length ys) held in
         looks-slice ! tt T.the-row (Is T.the-row) (shows 𝓤 H A T.the-row) vals (slot .tells) (LL.copy T.the-type T′.the-copy 𝓤 H A W) ys b o (λ q′.
-        elem-out ! T.the-row (Is T.the-row) (shows 𝓤 H A T.the-row) vals (slot .tells) q′ ys i free b o l (λ g. let r = getD ys i free in
-        assigns ! (of-opd ! (load ! (from ! (hop ! (look ! 11 refl) (stop !))) (look-raw ! 0 refl))) (from ! (stop !)) (init ! 9 refl (slot .lawful 𝓤 H A W .typed r _ g .0)) $
-        assigns ! (of-opd ! (load ! (from ! (stop !)) (look ! 9 refl))) (from ! (stop !)) (init ! 23 refl (slot .lawful 𝓤 H A W .typed r _ g .0)) $
-        elem-back ! T.the-row q′ ys i free (vals r) b o l $ shuts-slice ! tt T.the-row q′ ys b o $
+        reads ! 6 q′ ys b o i gn l refl refl (λ g. shuts-slice ! tt T.the-row q′ ys b o $
         returns-within ! Post refl (look ! 20 refl) $ forget ! 6 refl $ forget ! 8 refl $ forget ! 10 refl $ forget ! 12 refl $ forget ! 14 refl $ forget ! 16 refl $ forget ! 18 refl $ forget ! 20 refl $
         frees-all ! 6 refl $
         move ! (3 ∷ 1 ∷ []) $ fjoin ! $ move ! (3 ∷ 0 ∷ []) $ fjoin ! $ keep ! (1 ∷ 0 ∷ 3 ∷ []) $ by ! (exits r refl g))))

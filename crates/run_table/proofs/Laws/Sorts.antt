@@ -6,6 +6,8 @@ use Rattle.links.proofs.HeadReply as R
 use Rattle.links.proofs.HeadReply.Laws as R′
 use Rattle.search.proofs.inquiry.Inquiry as Y
 use Rattle.search.proofs.inquiry.Inquiry.Laws as Y′
+use Rattle.table_calls.proofs.enabling.PrefixInquiry as U
+use Rattle.table_calls.proofs.enabling.PrefixInquiry.Laws as U′
 use Rattle.table_calls.proofs.SlotChange as C
 use Rattle.table_calls.proofs.SlotChange.Laws as C′
 
@@ -20,3 +22,6 @@ change = struct C.the-type C′.the-laws C′.the-plain
 
 abbrev pub inquiry : Data Y.the-row
 inquiry = struct Y.the-type Y′.the-laws Y′.the-plain
+
+abbrev pub prefix-inquiry : Data U.the-row
+prefix-inquiry = struct U.the-type U′.the-laws U′.the-plain

@@ -3,7 +3,7 @@ use Prim.Native.Nat.{ℕ, zero, suc, _-_}
 use native.Mathlib.Omega.{arith}
 use mathlib.Core.Path.{_≡_, refl, sym, _∙_, ap}
 use mathlib.Core.Logic.{_≢_}
-use mathlib.Core.Bool.{Bool, true, false, cond, not}
+use mathlib.Core.Bool.{Bool, true, false, cond, not, _||_}
 use mathlib.Core.List.{List, [], _∷_, _++_}
 use lib.Dec.{eqb, ltb, eqb·suc-zero, lit<}
 use lib.ListN.{length}
@@ -13,12 +13,12 @@ use Rattle.replies.proofs.Laws.Refusals.{Numbered, done-exactly, numbered-appen
 use Rattle.links.specs.declared.Head.{Head}
 use Rattle.links.specs.declared.Settings.{Settings}
 use Rattle.links.specs.declared.Slot.{Slot}
-use Rattle.links.specs.Settings.{settingsValues, groundRules, settingsRules, sameGround, overlaps}
-use Rattle.links.specs.Slots.{counted, any, unused}
+use Rattle.links.specs.Settings.{settingsValues, groundRules, settingsRules, sameGround, overlaps, overlapsItself}
+use Rattle.links.specs.Slots.{counted, any, unused, with}
 use Rattle.links.specs.Calls.{enable, rules, slotRules}
 use Rattle.links.specs.Run.{over, tooShort, rulesOver}
 use Rattle.links.proofs.Laws.Replies.{values-numbered}
-use Rattle.search.specs.declared.Wanted.the-variants.{SameGround, Overlapping}
+use Rattle.search.specs.declared.Wanted.the-variants.{SameGround}
 use Rattle.search.specs.Inquiry.{after}
 use Rattle.search.specs.Search.{passes}
 use Rattle.table_calls.specs.Steps.{enableRules}
@@ -52,18 +52,26 @@ before-enable max records s = go (refusal (settingsValues s)) (ltb records (max 
     go zero false = refl
     go (suc n) b = rw (eqb·suc-zero n, eqb·suc-zero n)
 
--- what the slots refuse stands behind what the call is refused by before
-slots-behind : (rs : List Rule) (a b d : Bool) → Numbered rs → refusal (rs ++ (4 if a then 5 if b then 6 if d then [])) ≡ after (after (after (refusal rs) 4 a) 5 b) 6 d
-slots-behind rs a b d k = first-of rs (4 if a then 5 if b then 6 if d then []) k ∙ go (refusal rs) a b d
+-- what the slots refuse, and 5 within the call, stands behind what the call is refused by before
+slots-behind : (rs : List Rule) (a b o d : Bool) → Numbered rs
+    → refusal (rs ++ (4 if a then 5 if (b || o) then 6 if d then [])) ≡ after (after (after (after (refusal rs) 4 a) 5 o) 5 b) 6 d
+slots-behind rs a b o d k = first-of rs (4 if a then 5 if (b || o) then 6 if d then []) k ∙ go (refusal rs) a b o d
   where
-    go : (n : ℕ) (a b d : Bool) → cond (eqb n 0) (refusal (4 if a then 5 if b then 6 if d then [])) n ≡ after (after (after n 4 a) 5 b) 6 d
-    go zero true b d = refl
-    go zero false true d = refl
-    go zero false false true = refl
-    go zero false false false = refl
-    go (suc n) a b d =
-        let stays : cond (eqb (suc n) 0) (refusal (4 if a then 5 if b then 6 if d then [])) (suc n) ≡ suc n = rw (eqb·suc-zero n) in
-        stays ∙ sym (ap (λ (m : ℕ). after (after m 5 b) 6 d) (number-stays n 4 a) ∙ ap (λ (m : ℕ). after m 6 d) (number-stays n 5 b) ∙ number-stays n 6 d)
+    go : (n : ℕ) (a b o d : Bool)
+        → cond (eqb n 0) (refusal (4 if a then 5 if (b || o) then 6 if d then [])) n ≡ after (after (after (after n 4 a) 5 o) 5 b) 6 d
+    go zero true b o d = refl
+    go zero false true true d = refl
+    go zero false true false d = refl
+    go zero false false true d = refl
+    go zero false false false true = refl
+    go zero false false false false = refl
+    go (suc n) a b o d =
+        let stays : cond (eqb (suc n) 0) (refusal (4 if a then 5 if (b || o) then 6 if d then [])) (suc n) ≡ suc n = rw (eqb·suc-zero n) in
+        stays
+        ∙ sym (ap (λ (m : ℕ). after (after (after m 5 o) 5 b) 6 d) (number-stays n 4 a)
+        ∙ ap (λ (m : ℕ). after (after m 5 b) 6 d) (number-stays n 5 o)
+        ∙ ap (λ (m : ℕ). after m 6 d) (number-stays n 5 b)
+        ∙ number-stays n 6 d)
 
 -- values that refuse nothing may be asked once more
 module _ (values : List Rule) where
@@ -95,7 +103,7 @@ not-short (r ∷ values) ground slots = ap (cond (r .holds) (r .number)) (not-sh
 
 before-numbered : (max records : ℕ) (s : Settings) → Numbered (enableRules max records s)
 unfolding enableRules groundRules
-before-numbered max records s = numbered-append (settingsValues s) _ (values-numbered s) (lit< tt, (lit< tt, (lit< tt, tt)))
+before-numbered max records s = numbered-append (settingsValues s) _ (values-numbered s) (lit< tt, (lit< tt, (lit< tt, (lit< tt, tt))))
 
 -- what the settings and the slots refuse an enable by, the first number that is not 0
 module _ (max records : ℕ) (s : Settings) (l : List Slot) where
@@ -108,11 +116,14 @@ module _ (max records : ℕ) (s : Settings) (l : List Slot) where
   abbrev pub byGround : ℕ
   byGround = after bySettings 4 sameOne
 
+  abbrev pub byOwn : ℕ
+  byOwn = after byGround 5 (overlapsItself s)
+
   abbrev overlapping : Bool
-  overlapping = any (passes (Overlapping (s .prefix))) l
+  overlapping = any (with (λ r. overlaps r s)) l
 
   abbrev pub byPrefix : ℕ
-  byPrefix = after byGround 5 overlapping
+  byPrefix = after byOwn 5 overlapping
 
   abbrev allUsed : Bool
   allUsed = not (any unused l)
@@ -124,15 +135,18 @@ module _ (max records : ℕ) (s : Settings) (l : List Slot) where
   pub prefix-first : byPrefix ≢ 0 → byAll ≡ byPrefix
   prefix-first h = stays byPrefix 6 allUsed h
 
-  pub ground-first : byGround ≢ 0 → byAll ≡ byGround
-  ground-first h = let same = stays byGround 5 overlapping h in prefix-first (λ z. h (sym same ∙ z)) ∙ same
+  pub own-first : byOwn ≢ 0 → byAll ≡ byOwn
+  own-first h = let same = stays byOwn 5 overlapping h in prefix-first (λ z. h (sym same ∙ z)) ∙ same
+
+  ground-first : byGround ≢ 0 → byAll ≡ byGround
+  ground-first h = let same = stays byGround 5 (overlapsItself s) h in own-first (λ z. h (sym same ∙ z)) ∙ same
 
   pub settings-first : bySettings ≢ 0 → byAll ≡ bySettings
   settings-first h = let same = stays bySettings 4 sameOne h in ground-first (λ z. h (sym same ∙ z)) ∙ same
 
   in-order : refusal (enableRules max records s ++ slotRules l s) ≡ byAll
-  unfolding slotRules sameGround overlaps
-  in-order = slots-behind (enableRules max records s) _ _ _ (before-numbered max records s)
+  unfolding slotRules sameGround
+  in-order = slots-behind (enableRules max records s) sameOne overlapping (overlapsItself s) allUsed (before-numbered max records s)
 
   -- they are those of its list, where there are slots enough, and over a run
   pub by-enable : ltb records (max - 1) ≡ false → refusal (rules l (enable s)) ≡ byAll

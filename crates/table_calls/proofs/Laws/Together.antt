@@ -8,6 +8,7 @@ use lib.Dec.{eqb, eqb·suc-zero}
 use lib.ListN.{length, take, set, getD}
 use lib.Seq.{set-out}
 use Rattle.replies.specs.Rules.{refusal, _if_, _then_}
+use Rattle.prefixes.specs.Prefixes.{overlapping}
 use Rattle.links.specs.declared.Begun.{Begun}
 use Rattle.links.specs.declared.Head.{Head}
 use Rattle.links.specs.declared.HeadReply.{HeadReply}
@@ -18,23 +19,24 @@ use Rattle.links.specs.declared.Reply.{Reply}
 use Rattle.links.specs.declared.Settings.{Settings}
 use Rattle.links.specs.declared.Slot.{Slot}
 use Rattle.links.specs.declared.StartValues.{StartValues}
-use Rattle.links.specs.Settings.{midOk}
-use Rattle.links.specs.Slots.{free, counted}
+use Rattle.links.specs.Settings.{midOk, overlaps}
+use Rattle.links.specs.Slots.{free, counted, any, with}
 use Rattle.links.specs.Calls.{TableCall, enable, disable, setArea, setOwn, rules, linkAfter, tableAfter, answer, cleared}
 use Rattle.links.specs.Run.{over, tooShort, rulesOver, replyOver, Left, startRulesOver, beginOver, startOver}
 use Rattle.search.specs.declared.Found.{Found}
 use Rattle.search.specs.declared.Wanted.{Wanted}
-use Rattle.search.specs.declared.Wanted.the-variants.{Unused, SameGround, Overlapping}
+use Rattle.search.specs.declared.Wanted.the-variants.{Unused, SameGround}
 use Rattle.search.specs.declared.inquiry.Inquiry.{Inquiry}
 use Rattle.search.specs.Inquiry.{asking}
 use Rattle.search.specs.Search.{asked, fits, foundIn}
 use Rattle.search.proofs.Laws.Asked.{asks-the-ground}
 use Rattle.table_calls.specs.declared.SlotChange.{SlotChange}
+use Rattle.table_calls.specs.declared.enabling.PrefixInquiry.{PrefixInquiry}
 use Rattle.table_calls.specs.declared.heads.StartOrder.{StartOrder}
-use Rattle.table_calls.specs.Steps.{slotPlace, enableRules, noLink, groundAsked, overlapAsked, unusedAsked, enabled, disabled, headOr, areaSet, ownSet, beginning, begun}
-use Rattle.table_calls.proofs.Laws.Numbers.{byGround, byPrefix, byAll, by-enable-over}
+use Rattle.table_calls.specs.Steps.{slotPlace, enableRules, noLink, groundAsked, prefixAsking, overlapAsked, unusedAsked, enabled, disabled, headOr, areaSet, ownSet, beginning, begun}
+use Rattle.table_calls.proofs.Laws.Numbers.{byOwn, byPrefix, byAll, by-enable-over}
 use Rattle.table_calls.proofs.Laws.Places.{slot-at-place}
-use Rattle.table_calls.proofs.Laws.Asked.{Answers, changeOr, taken, as-it-stands}
+use Rattle.table_calls.proofs.Laws.Asked.{Answers, OverlapAnswers, changeOr, taken, as-it-stands}
 use Rattle.table_calls.proofs.Laws.Enabling.{second, third, changed}
 
 -- the reply of a call that changes a slot, stored in the run
@@ -48,23 +50,23 @@ by-number h run call good right zero = right
 by-number h run call good right (suc n) = rw (eqb·suc-zero n, set-out run (length run) free (omega arith))
 
 module _ (h : Head) (run : List Slot) where
-  pub enable-together : (s : Settings) (g o u : Inquiry) (same overlapping lowest : Found) (c : SlotChange)
+  pub enable-together : (s : Settings) (g u : Inquiry) (o : PrefixInquiry) (same lowest : Found) (overlaps : Bool) (c : SlotChange)
       → g ≡ groundAsked (h .max) (length run) s
       → same ≡ foundIn (take (g .count) run) (fits (g .wanted)) (g .otherwise)
       → o ≡ overlapAsked g same s
-      → overlapping ≡ foundIn (take (o .count) run) (fits (o .wanted)) (o .otherwise)
-      → u ≡ unusedAsked o overlapping
+      → overlaps ≡ any (with (λ x. overlapping (x .prefixes) (s .prefixes))) (take (o .count) run)
+      → u ≡ unusedAsked o overlaps
       → lowest ≡ foundIn (take (u .count) run) (fits (u .wanted)) (u .otherwise)
       → c ≡ enabled u lowest (length run) s
       → record { number = c .number; link = c .link; table = over h (set run (c .place) (c .slot)) } ≡ replyOver (over h run) (enable s)
-  unfolding replyOver linkAfter tableAfter
-  enable-together s g o u same overlapping lowest c eg es eo ef eu el ec =
+  unfolding replyOver linkAfter tableAfter overlaps
+  enable-together s g u o same lowest overlaps c eg es eo ef eu el ec =
       let l = counted (over h run) in
       let n = byAll (h .max) (length run) s l in
-      let two : o ≡ asking (byGround (h .max) (length run) s l) (h .max - 1) (Overlapping (s .prefix)) noLink =
+      let two : o ≡ prefixAsking (byOwn (h .max) (length run) s l) (h .max - 1) =
       second (h .max) (length run) s l noLink g o same eg (answers (refusal (enableRules (h .max) (length run) s)) (SameGround (s .area)) g same eg es) eo in
       let three : u ≡ asking (byPrefix (h .max) (length run) s l) (h .max - 1) Unused noLink =
-      third (h .max) (length run) s l noLink o u overlapping two (answers (byGround (h .max) (length run) s l) (Overlapping (s .prefix)) o overlapping two ef) eu in
+      third (h .max) (length run) s l noLink o u overlaps two (overlap-answers s (byOwn (h .max) (length run) s l) o overlaps two ef) eu in
       ap (stored h run) (changed (h .max) (length run) s l noLink u lowest c three (answers (byPrefix (h .max) (length run) s l) Unused u lowest three el) ec)
       ∙ by-number h run (enable s) (taken l s) refl n
       ∙ ap (λ (k : ℕ). answer k (over h run) (enable s)) (sym (by-enable-over h run s))
@@ -76,6 +78,12 @@ module _ (h : Head) (run : List Slot) where
           ef
           ∙ ap (λ (j : Inquiry). foundIn (take (j .count) run) (fits (j .wanted)) (j .otherwise)) (as-it-stands (h .max - 1) noLink n wanted i ei z)
           ∙ ap (λ (q : Slot → Bool). foundIn (counted (over h run)) q noLink) (asks-the-ground wanted (asked wanted) refl)
+
+      overlap-answers : (s : Settings) (n : ℕ) (i : PrefixInquiry) (b : Bool) → i ≡ prefixAsking n (h .max - 1)
+          → b ≡ any (with (λ x. overlapping (x .prefixes) (s .prefixes))) (take (i .count) run) → OverlapAnswers (counted (over h run)) s i b
+      overlap-answers s n i b ei eb z =
+          let asked : i ≡ prefixAsking 0 (h .max - 1) = ei ∙ ap (λ (m : ℕ). prefixAsking m (h .max - 1)) (ap (λ (j : PrefixInquiry). j .number) (sym ei) ∙ z) in
+          eb ∙ ap (λ (j : PrefixInquiry). any (with (λ x. overlapping (x .prefixes) (s .prefixes))) (take (j .count) run)) asked
 
   pub disable-together : (i : LinkIndex) (x : Slot) (c : SlotChange)
       → x ≡ getD run (slotPlace (h .max) (length run) i) free

@@ -9,6 +9,7 @@ use Rattle.links.specs.declared.LinkIndex.{LinkIndex}
 use Rattle.links.specs.declared.PerhapsLink.the-variants.{Link, Nothing}
 use Rattle.links.specs.declared.Settings.{Settings}
 use Rattle.links.specs.declared.Table.{Table}
+use Rattle.links.specs.Settings.{stored}
 use Rattle.links.specs.Slots.{dgvlIndex, indexAt, placeOf, free, inUse, counted, slotAt, place, unused}
 use Rattle.links.specs.Calls.{enable, disable, rules}
 use Rattle.links.specs.Index.{chosen}
@@ -38,18 +39,20 @@ module _ (t : Table) where
       let kept : slotOr (suc n) c 64 ≡ unchangedSlot (suc n) 64 = rw (eqb·suc-zero n) in
       ap (ofSlot t) kept ∙ rw (eqb·suc-zero n)
 
+  -- the number of a question
+  pub asked-number : (n : ℕ) (wanted : Wanted) (i : Inquiry) → i ≡ asking n 64 wanted noLink → i .number ≡ n
+  asked-number n wanted i e = ap (λ (j : Inquiry). j .number) e ∙ number-of 64 noLink n wanted
+
   module _ (s : Settings) where
     by-all : refusal (rules (counted t) (enable s)) ≡ byAll 65 64 s (counted t)
     by-all = by-enable 65 64 s (counted t) refl
 
     -- a step that refuses, by the number with which it asks no more
-    pub enable-refused : (n : ℕ) (wanted : Wanted) (i : Inquiry) → i ≡ asking n 64 wanted noLink → i .number ≢ 0 → (n ≢ 0 → byAll 65 64 s (counted t) ≡ n)
-        → unchangedBy t (i .number) ≡ enableChange t s
+    pub enable-refused : (n m : ℕ) → m ≡ n → m ≢ 0 → (n ≢ 0 → byAll 65 64 s (counted t) ≡ n) → unchangedBy t m ≡ enableChange t s
     unfolding enableChange
-    enable-refused n wanted i e h first =
-        let is : i .number ≡ n = ap (λ (j : Inquiry). j .number) e ∙ number-of 64 noLink n wanted in
-        let some : 0 < i .number = omega (arith, h) in
-        sym (change-refused t (refusal (rules (counted t) (enable s))) _ (i .number) some (by-all ∙ first (λ z. h (is ∙ z)) ∙ sym is))
+    enable-refused n m is h first =
+        let some : 0 < m = omega (arith, h) in
+        sym (change-refused t (refusal (rules (counted t) (enable s))) _ m some (by-all ∙ first (λ z. h (is ∙ z)) ∙ sym is))
 
     pub enable-decided : (c : SlotChange) → c ≡ slotOr (byAll 65 64 s (counted t)) (taken (counted t) s) 64 → ofSlot t c ≡ enableChange t s
     unfolding enableChange
@@ -57,7 +60,7 @@ module _ (t : Table) where
         let k = place unused (counted t) in
         ap (ofSlot t) e
         ∙ by-number (byAll 65 64 s (counted t)) (taken (counted t) s) refl
-        ∙ ap (λ (n : ℕ). changeOr n t (slotChange t (Link (indexAt k)) k (inUse s))) (sym by-all)
+        ∙ ap (λ (n : ℕ). changeOr n t (slotChange t (Link (indexAt k)) k (inUse (stored s)))) (sym by-all)
 
   pub disable-decided : (i : LinkIndex) → ofSlot t (disabled 65 64 i (slotAt (counted t) i)) ≡ disableChange t i
   unfolding disableChange rules

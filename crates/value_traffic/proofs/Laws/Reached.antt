@@ -4,7 +4,8 @@ use mathlib.Core.Path.{_≡_, sym, _∙_, ap}
 use mathlib.Core.Bool.{Bool}
 use mathlib.Core.List.{List}
 use Rattle.octets.proofs.Laws.Digits.{Below}
-use Rattle.prefix.specs.Prefix.{ofAddress, overlap}
+use Rattle.prefix.specs.Prefix.{ofAddress}
+use Rattle.prefixes.specs.Prefixes.{meets}
 use Rattle.links.specs.declared.Settings.{Settings}
 use Rattle.links.specs.declared.Table.{Table}
 use Rattle.links.specs.Settings.{reaches}
@@ -19,7 +20,7 @@ use Rattle.value_slots.specs.Search.{found}
 use Rattle.value_slots.proofs.Laws.Found.{found-link}
 
 module _ (t : Table) (a : List ℕ) (bytes : Below 256 a) where
-  same-question : _≡_ {A = Settings → Bool} (λ s. overlap (s .prefix) (ofAddress a)) (λ s. reaches s a)
+  same-question : _≡_ {A = Settings → Bool} (λ s. meets (s .prefixes) (ofAddress a)) (λ s. reaches s a)
   same-question i s = sym (reaches-as-overlap s a bytes) i
 
   pub reached-any : (f : Found) → f ≡ found t (passes (Overlapping (ofAddress a))) → f .any ≡ any (with (λ s. reaches s a)) (counted t)

@@ -8,7 +8,7 @@ returns : tie.Need-returns
 returns c = c .unchanged .ensures ∙ rw (← c .before .before .after .ensures, ne-eqb _ 0 (c .before .if1 .taken))
 
 returns-2 : tie.Need-returns-2
-returns-2 c = rw (← c .before .before .before .after .ensures, eq-eqb _ 0 (c .before .before .if1 .left))
+returns-2 c = rw (← c .before .before .before .before .after .ensures, eq-eqb _ 0 (c .before .before .before .if1 .left), c .stored .ensures)
 
 pub change-spec : {M : Type 1} → statement M
-change-spec = tie.close (tie.spec (λ c κs. tt) (λ c κs. tt) returns returns-2)
+change-spec = tie.close (tie.spec (λ c κs. tt) (λ c κs. tt) returns (λ c κs. tt) returns-2)
