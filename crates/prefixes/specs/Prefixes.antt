@@ -34,7 +34,7 @@ allOf q (p ∷ l) = q p && allOf q l
 abbrev pub tooMany : Prefixes → Bool
 tooMany s = ltb 4 (s .count)
 
--- prefix-listed-good: every listed prefix is good, and none has length 0
+-- prefix-listed: every listed prefix is good, and none has length 0
 unfoldable pub goodPrefixes : Prefixes → Bool
 goodPrefixes s = allOf (λ p. ltb 0 (p .len) && goodPrefix p) (listed s)
 
@@ -86,7 +86,7 @@ ofFour n a b c d = record {
 abbrev pub kept : Prefixes → Prefixes
 kept s = ofFour (s .count) (listedAt s 0) (listedAt s 1) (listedAt s 2) (listedAt s 3)
 
--- record-enable: one prefix; none where its length is 0
+-- record-list: one prefix; none where its length is 0
 abbrev pub single : Prefix → Prefixes
 single p = cond (eqb (p .len) 0) noPrefixes (ofFour 1 p noPrefix noPrefix noPrefix)
 

@@ -1,5 +1,4 @@
 -- `links::checks::ground_refusal` meets its contract.
-use mathlib.Core.Path.{_∙_}
 use borrow.Author.Needs.{needs}
 use Rattle.links.specs.Settings.{groundRules}
 use Rattle.links.proofs.checks.ground_refusal.Statement.{statement}
@@ -7,7 +6,7 @@ use Rattle.links.proofs.checks.ground_refusal.Tie as tie
 
 returns : tie.Need-returns
 unfolding groundRules
-returns c = c .refused-by-ground .ensures ∙ rw (c .before .before .before .good2 .ensures, c .before .before .too-many .ensures, c .before .good3 .ensures)
+returns c = rw (← c .before .before .before .good2 .ensures, ← c .before .before .too-many .ensures, ← c .before .good3 .ensures) (c .refused-by-ground .ensures)
 
 pub ground-refusal-spec : {M : Type 1} → statement M
 ground-refusal-spec =

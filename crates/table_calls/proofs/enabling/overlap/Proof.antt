@@ -1,7 +1,9 @@
 -- `table_calls::enabling::overlap` meets its contract.
-use mathlib.Core.Path.{_≡_}
+use Prim.Native.Nat.{ℕ}
+use mathlib.Core.Path.{_≡_, _∙_, ap}
 use borrow.Author.Tests.{eq-eqb, ne-eqb}
 use Rattle.links.specs.Settings.{overlapsItself}
+use Rattle.search.specs.Inquiry.{after}
 use Rattle.table_calls.specs.Steps.{overlapAsked}
 use Rattle.table_calls.proofs.enabling.overlap.Statement.{statement}
 use Rattle.table_calls.proofs.enabling.overlap.Tie as tie
@@ -10,7 +12,11 @@ use Rattle.table_calls.proofs.enabling.overlap.Tie as tie
 number-is : (c : tie.After-after2) → (let args = c .before .before .before .args in
     c .after2 .result ≡ overlapAsked (args .before) (args .same) (args .s) .number)
 unfolding overlapsItself
-number-is c = rw (← c .before .before .overlap-within .ensures, ← c .before .after .ensures) (c .after2 .ensures)
+number-is c =
+    let args = c .before .before .before .args in
+    c .after2 .ensures
+    ∙ ap (λ (n : ℕ). after n 5 (c .before .before .overlap-within .result)) (c .before .after .ensures)
+    ∙ ap (after (after (args .before .number) 4 (args .same .any)) 5) (c .before .before .overlap-within .ensures)
 
 returns : tie.Need-returns
 returns c = rw (← number-is (c .before), ne-eqb _ 0 (c .if1 .taken))
