@@ -1,5 +1,5 @@
--- RULES, Cases at the edges: which prefixes an enable takes (prefix-good, prefix-reserved), and the order of its refusals
--- (enable-refusals, run-refusals), by what holds at once of each two that stand side by side.
+-- RULES, Cases at the edges: which prefixes an enable takes (edge-prefix), and the order of its refusals (enable-refusals,
+-- run-refusals), by what holds at once of each two that stand side by side; of the latter no edge rule speaks.
 use Prim.Native.Nat.{ℕ}
 use mathlib.Core.List.{List, [], _∷_}
 use Rattle.links.specs.declared.Settings.{Settings}

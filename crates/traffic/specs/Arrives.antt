@@ -101,7 +101,7 @@ isArea Nothing b = false
 unfoldable pub byArea : Indication → Settings → Bool
 byArea x s = (eqb (x .transport) 2 || eqb (x .transport) 3) && isArea (x .destination) (s .area)
 
--- line-3: transport 1, and the prefix holds the packet's destination; failing that, its source
+-- line-3: transport 1, and one of its prefixes holds the packet's destination; failing that, its source
 unfoldable pub byDestination : Indication → Settings → Bool
 byDestination x s = eqb (x .transport) 1 && reaches s (destination (x .packet))
 

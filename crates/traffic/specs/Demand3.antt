@@ -61,7 +61,7 @@ pub data Follows (t u : Table) (x : Indication) (buffer : List ℕ) (a b : Recei
   topologicalStays : a .reply .link ≡ indexOf topological → a ≡ b → Follows t u x buffer a b
   -- a packet on a stop link stays on the link of those settings, byte for byte
   stopStays : (j k : ℕ) (r s : Settings) → OnStop t a j r → OnStop u b k s → Same r s → SameButIndex a b → Follows t u x buffer a b
-  -- only if its source address put it there may it move, and then only to a link that the first lacks and whose prefix holds its destination
+  -- only if its source address put it there may it move, and then only to a link that the first lacks and one of whose prefixes holds its destination
   stopMoves : (j k : ℕ) (r s : Settings) → OnStop t a j r → PutBySource t x j r → OnStop u b k s → Lacks t s → reaches s (destination (x .packet)) ≡ true → Follows t u x buffer a b
   -- a packet on the dynamic link stays, or goes to a link that the first lacks
   dynamicStays : a .reply .link ≡ indexOf dynamic → a ≡ b → Follows t u x buffer a b
