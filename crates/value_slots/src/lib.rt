@@ -12,7 +12,7 @@ use search::Wanted;
 ghost use mathlib.Core.Path.{_≡_};
 ghost use Prim.Native.Nat.{_-_, _≤_, min};
 ghost use Rattle.links.specs.Slots.{indexAt, counted, slotAt, any, with};
-ghost use Rattle.prefixes.specs.Prefixes.{overlapping, listedAt};
+ghost use Rattle.prefixes.specs.Prefixes.{overlapping};
 ghost use Rattle.search.specs.Search.{passes};
 ghost use Rattle.value_slots.specs.Search.{found, slotPlace, placeIn, slotFrom};
 
@@ -87,25 +87,23 @@ pub fn find(t: Table, wanted: Wanted) -> Found
     }
 }
 
-// Whether an enabled link has a prefix that overlaps the one listed at a place.
-fn overlaps_listed(t: Table, s: Prefixes, k: u8) -> bool
-    ensures { λ r. ⌜ r ≡ any (passes (Wanted.Overlapping (listedAt s k))) (counted t) ⌝ }
-{
-    if s.count <= k {
-        return false;
-    }
-    let found = find(t, Wanted::Overlapping(prefixes::at(s, k)));
-    found.any
-}
-
-// Whether an enabled link has a prefix that overlaps one of these.
+// Whether an enabled link has a prefix that overlaps one of these. A loop, so that the search is called from one place: called from
+// four, the table would be copied for each.
 pub fn overlapping(t: Table, s: Prefixes) -> bool
     ensures { λ r. ⌜ r ≡ any (with (λ x. overlapping (x .prefixes) s)) (counted t) ⌝ }
 {
-    overlaps_listed(t, s, 0)
-        | overlaps_listed(t, s, 1)
-        | overlaps_listed(t, s, 2)
-        | overlaps_listed(t, s, 3)
+    let mut k: u8 = 0;
+    while k < prefixes::MOST {
+        if s.count <= k {
+            return false;
+        }
+        let found = find(t, Wanted::Overlapping(prefixes::at(s, k)));
+        if found.any {
+            return true;
+        }
+        k += 1;
+    }
+    false
 }
 
 // Where the slot of a link stands; the first place for a fixed link and past the last slot, which have none.
