@@ -1,5 +1,6 @@
-// The records of a table that lie in a lent run: look for one, read one, store one, clear the first of them. Who holds the run lends
-// it, and nothing of it is copied but the record that is asked for. None of these asks anything of its caller.
+// The records of a table that lie in a lent run: look for one, ask for those that overlap prefixes, read one, store one, clear the
+// first of them. Who holds the run lends it, and nothing of it is copied but the record that is asked for. None of the five asks
+// anything of its caller.
 use area::Area;
 use links::Chosen;
 use links::LinkIndex;
