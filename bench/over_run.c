@@ -214,21 +214,29 @@ static void compare(enum kind k, struct boxes *x, usize records) {
 
 // ---- the rows
 
-// A stop is a circle around its latitude, and its prefix 2001:db8:stop::/48, as in the days (make.c).
+// A stop is a circle around its latitude, and its first prefix 2001:db8:stop::/48, as in the days (make.c); those of other operators on
+// its mast are 2001:db9:stop::/48 and so on.
 static struct area area_of(u64 stop) { return (struct area){ 0, (i32)stop, 0, 500, 0, 0 }; }
 
-static struct settings settings_of(u64 stop) {
-    return (struct settings){ area_of(stop), { 1, 1 }, { 1, { 48 }, { 0x20010db800000000 | stop << 16 }, { 0 } } };
+static struct settings settings_with(u64 stop, u8 count) {
+    struct settings s = { area_of(stop), { 1, 1 }, { .count = count } };
+    for (u64 k = 0; k < count; k++) {
+        s.prefixes.lengths[k] = 48;
+        s.prefixes.highs[k] = (0x20010db800000000 + (k << 32)) | stop << 16;
+    }
+    return s;
 }
 
-// A table with as many records as count, all enabled.
-static struct boxes *full_table(usize records) {
+static struct settings settings_of(u64 stop) { return settings_with(stop, 1); }
+
+// A table with as many records as count, all enabled, each with as many prefixes.
+static struct boxes *full_table_with(usize records, u8 prefixes) {
     struct boxes *x = new_boxes();
     x->start = (struct start_values){ 0x020000000001, records + 1, { 1, 1 }, { 1, 1 } };
     lend(x, records);
     compare(START, x, records);
     for (usize s = 0; s < records; s++) {
-        x->settings = settings_of(s);
+        x->settings = settings_with(s, prefixes);
         compare(ENABLE, x, s % 64 ? 0 : records);
     }
     x->own = 0x020000000004;
@@ -236,6 +244,8 @@ static struct boxes *full_table(usize records) {
     give_index(x, records + 1);
     return x;
 }
+
+static struct boxes *full_table(usize records) { return full_table_with(records, 1); }
 
 // Calls that change no record are repeated as they are. A start is repeated on the table that it has cleared. Behind an enable the
 // record that it took is taken back, by one store on either side.
@@ -328,19 +338,23 @@ static void row(const char *format, const char *of, enum kind k, struct boxes *x
 
 // ---- enable and disable
 
-static struct cost cost_of_enable(usize records, usize unused) {
-    struct boxes *x = full_table(records);
+static struct cost cost_of_enable_with(usize records, usize unused, u8 prefixes) {
+    struct boxes *x = full_table_with(records, prefixes);
     x->unused = unused;
     x->c.run.slots[unused].enabled = x->proved.run.slots[unused].enabled = false;
-    x->settings = settings_of(unused);
+    x->settings = settings_with(unused, prefixes);
     return cost_of(and_back[ENABLE], ENABLE, x, 0);
 }
+
+static struct cost cost_of_enable(usize records, usize unused) { return cost_of_enable_with(records, unused, 1); }
 
 static void print_enables(const char *of, usize records) {
     sprintf(name, "enable, the first of %s unused", of);
     print_row(name, cost_of_enable(records, 0));
     sprintf(name, "enable, the last of %s unused", of);
     print_row(name, cost_of_enable(records, records - 1));
+    sprintf(name, "enable, the last of %s unused, four prefixes each", of);
+    print_row(name, cost_of_enable_with(records, records - 1, 4));
     struct boxes *x = full_table(records);
     x->settings = settings_of(0);
     row("enable refused: area of the first of %s (4)", of, ENABLE, x, 4);
@@ -465,6 +479,14 @@ static struct cost per_record(struct cost more, struct cost less, usize records)
     return (struct cost){ (more.c - less.c) / n, (more.proved - less.proved) / n };
 }
 
+static struct cost growth_by_prefix(usize records, u8 prefixes) {
+    struct boxes *x = full_table_with(records, prefixes);
+    by_prefix(x, NO_STOP, 0);
+    struct cost first = cost_of(repeated[INDICATION], INDICATION, x, 0);
+    by_prefix(x, NO_STOP, records - 1);
+    return per_record(cost_of(repeated[INDICATION], INDICATION, x, 0), first, records);
+}
+
 static void print_growth(const char *of, usize records) {
     struct boxes *x = full_table(records);
     by_area(x, 0);
@@ -473,12 +495,10 @@ static void print_growth(const char *of, usize records) {
     struct cost last = cost_of(repeated[INDICATION], INDICATION, x, 0);
     sprintf(name, "indication by area, each of %s", of);
     print_row(name, per_record(last, first, records));
-    by_prefix(x, NO_STOP, 0);
-    first = cost_of(repeated[INDICATION], INDICATION, x, 0);
-    by_prefix(x, NO_STOP, records - 1);
-    last = cost_of(repeated[INDICATION], INDICATION, x, 0);
     sprintf(name, "indication by prefix, each of %s", of);
-    print_row(name, per_record(last, first, records));
+    print_row(name, growth_by_prefix(records, 1));
+    sprintf(name, "indication by prefix, each of %s with four", of);
+    print_row(name, growth_by_prefix(records, 4));
     sprintf(name, "enable, each of %s", of);
     print_row(name, per_record(cost_of_enable(records, records - 1), cost_of_enable(1, 0), records));
     x = full_table(records);

@@ -5,7 +5,7 @@ ghost use mathlib.Core.Path.{_≡_};
 ghost use mathlib.Core.Bool.{true, cond, _&&_};
 ghost use Prim.Native.Nat.{_<_};
 ghost use lib.Dec.{ltb};
-ghost use Rattle.prefix.specs.Prefix.{goodPrefix};
+ghost use Rattle.prefix.specs.Prefix.{overlap, goodPrefix};
 ghost use Rattle.prefixes.specs.Prefixes.{place, tooMany, goodPrefixes, meets, mayMeet, overlapWithin, noPrefixes, listedAt, ofFour, kept, single};
 
 // How many prefixes a stop link can have.
@@ -105,32 +105,28 @@ pub fn good(s: Prefixes) -> bool
     good_at(s, 0) & good_at(s, 1) & good_at(s, 2) & good_at(s, 3)
 }
 
+// Whether what is listed at a place overlaps a prefix.
+fn meets_at(s: Prefixes, k: u8, p: Prefix) -> bool
+    requires { ⌜ k < 4 ⌝ }
+    ensures { λ r. ⌜ r ≡ (ltb k (s .count) && overlap (place s k) p) ⌝ }
+{
+    (k < s.count) && prefix::overlaps(place(s, k as usize), p)
+}
+
 // Whether one of them overlaps a prefix.
 pub fn meets(s: Prefixes, p: Prefix) -> bool
     ensures { λ r. ⌜ r ≡ meets s p ⌝ }
 {
-    if s.count == 0 {
-        return false;
-    }
-    if prefix::overlaps(place(s, 0), p) {
+    if meets_at(s, 0, p) {
         return true;
     }
-    if s.count == 1 {
-        return false;
-    }
-    if prefix::overlaps(place(s, 1), p) {
+    if meets_at(s, 1, p) {
         return true;
     }
-    if s.count == 2 {
-        return false;
-    }
-    if prefix::overlaps(place(s, 2), p) {
+    if meets_at(s, 2, p) {
         return true;
     }
-    if s.count == 3 {
-        return false;
-    }
-    prefix::overlaps(place(s, 3), p)
+    meets_at(s, 3, p)
 }
 
 // Whether one of them may overlap a prefix, by a look at the first place: a search goes past most links with it.

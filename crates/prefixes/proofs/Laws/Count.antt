@@ -1,8 +1,8 @@
 -- Four places and a count: what a list by the count comes to, by the tests of the count against each place.
-use Prim.Native.Nat.{ℕ, zero, suc}
+use Prim.Native.Nat.{ℕ, zero, suc, _<_}
 use native.Mathlib.Omega.{arith}
 use mathlib.Core.Path.{_≡_, refl}
-use mathlib.Core.Bool.{Bool, true, false, cond, _&&_, _||_, and-false, and-true, and-assoc, or-false, or-assoc}
+use mathlib.Core.Bool.{Bool, true, false, cond, _&&_, _||_, and-false, and-true, and-assoc, or-false, or-true, or-assoc}
 use mathlib.Core.List.{List, [], _∷_}
 use lib.Dec.{ltb}
 use lib.ListN.{take}
@@ -29,6 +29,14 @@ count (suc (suc (suc (suc zero)))) = four
 count (suc (suc (suc (suc (suc n))))) =
     let m = suc (suc (suc (suc (suc n)))) in
     rw (lt-ltb 0 m (omega arith), lt-ltb 1 m (omega arith), lt-ltb 2 m (omega arith), lt-ltb 3 m (omega arith)) more
+
+-- one of four that passes is enough
+pub one-of-four : (q : ℕ → Bool) (k : ℕ) → k < 4 → q k ≡ true → (q 0 || (q 1 || (q 2 || q 3))) ≡ true
+one-of-four q zero h e = rw e
+one-of-four q (suc zero) h e = rw e (or-true (q 0))
+one-of-four q (suc (suc zero)) h e = rw (e, or-true (q 1)) (or-true (q 0))
+one-of-four q (suc (suc (suc zero))) h e = rw (e, or-true (q 2), or-true (q 1)) (or-true (q 0))
+one-of-four q (suc (suc (suc (suc k)))) h e = absurd (omega arith)
 
 -- none overlaps nothing
 pub overlap-none : (p : Prefix) → overlap p noPrefix ≡ false
@@ -65,7 +73,7 @@ module _ (a b c d : Prefix) where
   blanked-twice more = refl
 
   pub any-first : (q : Prefix → Bool) {n : ℕ} {i j k l : Bool} → Count n i j k l
-      → anyOf q (first n) ≡ (i && (q a || (j && (q b || (k && (q c || (l && q d)))))))
+      → anyOf q (first n) ≡ ((i && q a) || ((j && q b) || ((k && q c) || (l && q d))))
   unfolding anyOf
   any-first q none = refl
   any-first q one = refl

@@ -1,8 +1,8 @@
 -- `value_slots::overlapping`: one place of the list after the other. The invariant: what is listed before overlaps nothing.
-use Prim.Native.Nat.{ℕ, zero, suc, _-_, _≤_, _<_}
+use Prim.Native.Nat.{ℕ, _-_, _≤_, _<_}
 use native.Mathlib.Omega.{arith}
 use mathlib.Core.Path.{_≡_, refl, sym, _∙_, ap}
-use mathlib.Core.Bool.{Bool, true, false, or-true}
+use mathlib.Core.Bool.{Bool, true, false}
 use mathlib.Core.List.{List}
 use lib.Dec.{ltb}
 use borrow.Author.Count.{below-more}
@@ -11,6 +11,7 @@ use borrow.Author.Needs.{needs}
 use Rattle.prefix.specs.declared.Prefix.{Prefix}
 use Rattle.prefixes.specs.declared.Prefixes.{Prefixes}
 use Rattle.prefixes.specs.Prefixes.{overlapping}
+use Rattle.prefixes.proofs.Laws.Count.{one-of-four}
 use Rattle.links.specs.declared.Slot.{Slot}
 use Rattle.links.specs.Slots.{counted, any, with}
 use Rattle.search.specs.declared.Found.{Found}
@@ -34,11 +35,7 @@ module _ (l : List Slot) (s : Prefixes) where
   nowhere a b c d = sym (asked-by-place l s ∙ rw (a, b, c, d))
 
   somewhere : (k : ℕ) → k < 4 → askedAt l s k ≡ true → true ≡ whole
-  somewhere zero h e = sym (asked-by-place l s ∙ rw e)
-  somewhere (suc zero) h e = sym (asked-by-place l s ∙ rw (e, or-true (askedAt l s 0)))
-  somewhere (suc (suc zero)) h e = sym (asked-by-place l s ∙ rw (e, or-true (askedAt l s 1), or-true (askedAt l s 0)))
-  somewhere (suc (suc (suc zero))) h e = sym (asked-by-place l s ∙ rw (e, or-true (askedAt l s 2), or-true (askedAt l s 1), or-true (askedAt l s 0)))
-  somewhere (suc (suc (suc (suc k)))) h e = absurd (omega arith)
+  somewhere k h e = sym (asked-by-place l s ∙ one-of-four (askedAt l s) k h e)
 
 loop-holds : tie.Need-loop-holds Inv-loop μ-loop
 loop-holds c = (search needs, λ j h. absurd (omega arith))
