@@ -1,8 +1,10 @@
 // RULES, Area: a circle, rectangle or ellipse on the map, when it is good, and the normal form by which two are compared.
+#![tactic(auto)]
+
 ghost use Rattle.std.specs.Prelude.{◌≡◌};
 ghost use Rattle.area.specs.Area.{good_area, normal_longitude, described, is_round, normal, same_numbers, has_normal};
 
-#[derive(Drop)]
+#[derive(Clone, Copy)]
 pub struct Area {
     pub shape: u8,
     pub latitude: i32,

@@ -1,5 +1,7 @@
 // RULES, What arrives: the half of an indication that knows no layout of the table. What refuses it sees no table, and
 // what is delivered needs of the link that was chosen no more than its index and its kind.
+#![tactic(auto)]
+
 mod checks;
 
 ghost use Rattle.std.specs.Prelude.{◌≡◌, []};

@@ -1,5 +1,7 @@
 // RULES, The listing: the listing of the day file on standard input. What is written is the text that proved functions gave; what
 // went wrong is told on standard error, because a Rattle program can set no exit status.
+#![tactic(auto)]
+
 ghost use Rattle.std.specs.Prelude.{◌≡◌, length};
 ghost use Rattle.replay.specs.Day.{all_numbers, in_front};
 ghost use Rattle.listing.specs.Room.{text_buffer};
@@ -27,7 +29,7 @@ fn day_of(dispatched: bool, input: &[u8], out: &mut [u8], lines: &mut [u64]) -> 
 const LINES: usize = 65536;
 
 // What was listed: how many bytes, whether they are all of these lines, and how many lines.
-#[derive(Drop)]
+#[derive(Clone, Copy)]
 struct Listed {
     length: usize,
     whole: bool,

@@ -1,5 +1,7 @@
 // RULES, Cases at the edges: those not marked *, each printed with what is expected and what came. The twin prints the
 // same lines from its own code.
+#![tactic(auto)]
+
 use area::Area;
 use ipv6::PerhapsMid;
 use libc::STDOUT_FILENO;

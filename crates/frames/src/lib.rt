@@ -1,4 +1,6 @@
 // RULES, What arrives: an Ethernet frame or a packet alone, written at the front of a lent buffer.
+#![tactic(auto)]
+
 ghost use Rattle.std.specs.Prelude.{◌≤◌, ◌≡◌, ◌++◌, length, drop};
 ghost use Rattle.frames.specs.Frame.{frame, put, put_length};
 
@@ -18,11 +20,11 @@ fn put_packet(packet: &[u8], out: &mut [u8]) -> usize
     ensures { (result ≡ length packet.now) × (out.new ≡ packet.now ++ drop (length packet.now) out.old) }
 {
     if LONGEST < packet.len() {
-        return bytes::copy(packet, out);
+        return octets::copy(packet, out);
     }
     let mut room = [0u8; LONGEST];
-    let n = bytes::copy(packet, &mut room);
-    bytes::copy(&room[..n], out)
+    let n = octets::copy(packet, &mut room);
+    octets::copy(&room[..n], out)
 }
 
 // Writes nothing where the buffer has no room for the whole packet, and answers how many bytes it wrote.
@@ -45,8 +47,8 @@ pub fn write_frame(out: &mut [u8], to: u64, from: u64, packet: &[u8]) -> usize
     let to_mac = octets::mac_of(to);
     let from_mac = octets::mac_of(from);
     let kind = IPV6;
-    bytes::copy(&to_mac, out);
-    bytes::copy(&from_mac, &mut out[6..]);
-    bytes::copy(&kind, &mut out[12..]);
+    octets::copy(&to_mac, out);
+    octets::copy(&from_mac, &mut out[6..]);
+    octets::copy(&kind, &mut out[12..]);
     put_packet(packet, &mut out[HEADER..]) + HEADER
 }

@@ -1,4 +1,6 @@
 // IPv6 as far as the rules need it: is a packet good, and where not; where are its addresses, and what they say of a MID.
+#![tactic(auto)]
+
 ghost use Rattle.std.specs.Prelude.{◌≡◌};
 ghost use Rattle.octets.specs.Runs.{same};
 ghost use Rattle.replies.specs.Rules.{refusal};
@@ -7,7 +9,7 @@ ghost use Rattle.ipv6.specs.Packet.{source, destination, forbidden, packet_rules
 ghost use Rattle.ipv6.specs.Identifier.{flipped, identifier, link_local, mid_of};
 
 // A MID, where there is one to be had.
-#[derive(Drop)]
+#[derive(Clone, Copy)]
 pub enum PerhapsMid {
     Mid(u64),
     Nothing,

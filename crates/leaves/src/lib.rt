@@ -1,5 +1,7 @@
 // RULES, What leaves: the half of a request, and of the question for an interface address, that knows no layout of the
 // table. A request is refused, or sent down with its transport and destination, on the link that was found for its index.
+#![tactic(auto)]
+
 ghost use Rattle.std.specs.Prelude.{◌≡◌, []};
 ghost use Rattle.replies.specs.Rules.{refusal};
 ghost use Rattle.traffic.specs.Leaves.{request, neighbour_ok, neighbour_of, is_unset, within, request_values, not_sent, send_named, send_on, interface_on};

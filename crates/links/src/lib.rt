@@ -1,5 +1,6 @@
 // RULES, Virtual links: the types of the table of virtual links. What the calls on it answer is defined in specs/;
 // the laws of demands 1 and 2 are proved here of the definitions, for every layout of the table.
+#![tactic(auto)]
 
 pub mod checks;
 pub mod index;
@@ -12,7 +13,7 @@ use area::Area;
 use prefixes::Prefixes;
 
 // The index of a virtual link. The two fixed links bear index 0 and 1 always.
-#[derive(Drop)]
+#[derive(Clone, Copy)]
 pub struct LinkIndex(pub usize);
 
 impl LinkIndex {
@@ -39,14 +40,14 @@ pub const MOST: usize = 65;
 pub const MOST_OVER_A_RUN: usize = 4093;
 
 // A link's interface: its kind and its resolve flag.
-#[derive(Drop)]
+#[derive(Clone, Copy)]
 pub struct Interface {
     pub kind: u8,
     pub flag: u8,
 }
 
 // What a stop link is enabled with. The prefixes stand last: the interface fills the room that their words leave before them.
-#[derive(Drop)]
+#[derive(Clone, Copy)]
 pub struct Settings {
     pub area: Area,
     pub interface: Interface,
@@ -54,21 +55,21 @@ pub struct Settings {
 }
 
 // The record of one stop index: the first slot is that of the first stop index.
-#[derive(Drop)]
+#[derive(Clone, Copy)]
 pub struct Slot {
     pub enabled: bool,
     pub settings: Settings,
 }
 
 // The area of a link, where it has one: a stop link has, the topological link has none, the dynamic link's may be set and cleared.
-#[derive(Drop)]
+#[derive(Clone, Copy)]
 pub enum PerhapsArea {
     Set(Area),
     Unset,
 }
 
 // What a start is given.
-#[derive(Drop)]
+#[derive(Clone, Copy)]
 pub struct StartValues {
     pub own: u64,
     pub max: usize,
@@ -76,7 +77,7 @@ pub struct StartValues {
     pub dgvl: Interface,
 }
 
-#[derive(Drop)]
+#[derive(Clone, Copy)]
 pub struct Table {
     pub own: u64,
     pub max: usize,
@@ -87,7 +88,7 @@ pub struct Table {
 }
 
 // The same table without its slots: the head of a table over a lent run, whose slots are the run's records.
-#[derive(Drop)]
+#[derive(Clone, Copy)]
 pub struct Head {
     pub own: u64,
     pub max: usize,
@@ -97,27 +98,27 @@ pub struct Head {
 }
 
 // A table over a run, where a start gave one.
-#[derive(Drop)]
+#[derive(Clone, Copy)]
 pub enum PerhapsHead {
     Given(Head),
     Nothing,
 }
 
-#[derive(Drop)]
+#[derive(Clone, Copy)]
 pub enum PerhapsLink {
     Link(LinkIndex),
     Nothing,
 }
 
 // The link that was chosen for a packet: all that a delivery asks of it, whatever the layout of the table.
-#[derive(Drop)]
+#[derive(Clone, Copy)]
 pub struct Chosen {
     pub index: LinkIndex,
     pub kind: u8,
 }
 
 // The link that an index names: all that a request asks of it, whatever the layout of the table.
-#[derive(Drop)]
+#[derive(Clone, Copy)]
 pub struct Named {
     pub enabled: bool,
     pub interface: Interface,
@@ -185,7 +186,7 @@ impl Table {
 }
 
 // What a call on the table answers: its number, the link if one is given, and the table after it.
-#[derive(Drop)]
+#[derive(Clone, Copy)]
 pub struct Reply {
     pub number: u8,
     pub link: PerhapsLink,
@@ -194,7 +195,7 @@ pub struct Reply {
 
 // What a call on a table over a run answers: its number, the link if one is given, and the head after it. The records after it are in
 // the run.
-#[derive(Drop)]
+#[derive(Clone, Copy)]
 pub struct HeadReply {
     pub number: u8,
     pub link: PerhapsLink,
@@ -202,7 +203,7 @@ pub struct HeadReply {
 }
 
 // What a start over a run answers: its number, and the head of the table, or none where it is refused.
-#[derive(Drop)]
+#[derive(Clone, Copy)]
 pub struct Begun {
     pub number: u8,
     pub head: PerhapsHead,

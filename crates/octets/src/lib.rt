@@ -1,6 +1,8 @@
 // Bytes and numbers: parts and equal runs of bytes, big-endian numbers, and the six MAC bytes of a MID.
 // A part reaches only as far as its slice: what lies past the end is missing, and no call refuses it.
-ghost use Rattle.std.specs.Prelude.{◌≡◌, ◌+◌, ◌*◌, ◌≤◌, ◌<◌, ◌^◌, length, get_or, take, drop};
+#![tactic(auto)]
+
+ghost use Rattle.std.specs.Prelude.{◌≡◌, ◌+◌, ◌*◌, ◌≤◌, ◌<◌, ◌^◌, ◌++◌, min, length, get_or, take, drop};
 ghost use Rattle.octets.specs.Digits.{big_endian, mac};
 ghost use Rattle.octets.specs.Runs.{same};
 
@@ -21,6 +23,15 @@ pub fn equal(a: &[u8], b: &[u8]) -> bool
     ensures { result ≡ same a.now b.now }
 {
     check::same(a, b)
+}
+
+// Copies bytes to the front of a slice, as many as it has room for, and answers how many. The others stay as they were.
+pub fn copy(from: &[u8], to: &mut [u8]) -> usize
+    ensures { (result ≡ min (length from.now) (length to.old)) × (to.new ≡ take (length to.old) from.now ++ drop (length from.now) to.old) }
+{
+    let n = from.len().min(to.len());
+    to[..n].copy_from_slice(part(from, 0, n));
+    n
 }
 
 // A number with one of the bytes put behind it.

@@ -1,6 +1,8 @@
 // RULES, What arrives and What leaves, step by step and without the table: what a call asks of the slots, and what it makes of the
 // answer. Whoever holds the slots answers, by value or in a lent run. `records` is how many slots there are: with fewer than
 // maximum - 1 the call is refused (23).
+#![tactic(auto)]
+
 pub mod choosing;
 mod order;
 

@@ -1,11 +1,13 @@
 // RULES, Prefix: which addresses and prefixes a prefix holds, which two overlap, and which are good. A prefix is its length and
 // two words, the first eight of its 16 bytes and the last eight: two compares decide what a loop over bytes would.
+#![tactic(auto)]
+
 ghost use Rattle.std.specs.Prelude.{◌≡◌, ◌<◌, take, drop};
 ghost use Rattle.octets.specs.Digits.{bits};
 ghost use Rattle.octets.specs.Runs.{same, all_zero};
 ghost use Rattle.prefix.specs.Prefix.{no_prefix, word_bytes, bytes_of, of_bytes, of_address, holds, holds_prefix, overlap, may_overlap, good_prefix, bytes_needed};
 
-#[derive(Drop)]
+#[derive(Clone, Copy)]
 pub struct Prefix {
     pub len: u8,
     pub high: u64,

@@ -1,5 +1,7 @@
 // RULES, Prefix: the prefixes of one stop link, up to four. They are told as numbers, four of each sort and a count: a record of the
 // table takes 104 bytes so, and 136 with an array of prefixes.
+#![tactic(auto)]
+
 ghost use Rattle.std.specs.Prelude.{◌≡◌, true, cond, ◌&&◌, ◌<◌, ltb};
 ghost use Rattle.prefix.specs.Prefix.{overlap, good_prefix};
 ghost use Rattle.prefixes.specs.Prefixes.{place, too_many, good_prefixes, meets, may_meet, overlap_within, no_prefixes, listed_at, of_four, kept, single};
@@ -10,7 +12,7 @@ use prefix::Prefix;
 pub const MOST: u8 = 4;
 
 // The count may say more than there are places, so that a call can be refused for it.
-#[derive(Drop)]
+#[derive(Clone, Copy)]
 pub struct Prefixes {
     pub count: u8,
     pub lens: [u8; 4],

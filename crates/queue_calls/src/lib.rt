@@ -1,5 +1,7 @@
 // RULES, Two queues: adding, showing and taking, over queues that their owner lends. What is shown is a part of one of the two, where
 // it lies.
+#![tactic(auto)]
+
 ghost use Rattle.std.specs.Prelude.{◌≡◌, ◌+◌, ◌≤◌, length, take, drop};
 ghost use Rattle.numbers.specs.Numbers.{number_bytes, shifted, written};
 ghost use Rattle.replies.specs.Rules.{refusal};
@@ -55,7 +57,7 @@ fn is_good(held: usize, queue: &[u8]) -> bool
 }
 
 // A queue after a packet is added to it, or not: the number, and the bytes held.
-#[derive(Drop)]
+#[derive(Clone, Copy)]
 struct Added {
     number: u8,
     held: usize,
@@ -87,7 +89,7 @@ fn lay(queue: &mut [u8], held: usize, run: NumberRun, packet: &[u8])
 {
     let digits = run.length;
     let at = held + digits;
-    bytes::copy(octets::part(&run.bytes, 0, digits), &mut queue[held..]);
+    octets::copy(octets::part(&run.bytes, 0, digits), &mut queue[held..]);
     frames::write_packet(&mut queue[at..], packet);
 }
 
@@ -226,8 +228,8 @@ fn move_down(queue: &mut [u8], n: usize, held: usize)
     ensures { queue.new ≡ moved_down n held queue.old }
 {
     let mut room = [0u8; SIZE];
-    let rest = bytes::copy(&queue[n..held], &mut room);
-    bytes::copy(&room[..rest], queue);
+    let rest = octets::copy(&queue[n..held], &mut room);
+    octets::copy(&room[..rest], queue);
 }
 
 // The count after the next packet is taken.

@@ -1,5 +1,7 @@
 // RULES, Two queues: the state that stands beside them, and what the calls on them answer. The definitions and the laws of two queues
 // stand here; the calls are those of `queue_calls`.
+#![tactic(auto)]
+
 ghost use Rattle.std.specs.Prelude.{◌≡◌};
 ghost use Rattle.queues.specs.Calls.{empty};
 
@@ -13,7 +15,7 @@ pub const LONGEST: u64 = 1280;
 pub const ROW: usize = 4;
 
 // The bytes held in each queue, and the count of the current control row.
-#[derive(Drop)]
+#[derive(Clone, Copy)]
 pub struct State {
     pub control: usize,
     pub film: usize,
@@ -21,7 +23,7 @@ pub struct State {
 }
 
 // What adding and taking answer: the number, and the state after it.
-#[derive(Drop)]
+#[derive(Clone, Copy)]
 pub struct Reply {
     pub number: u8,
     pub state: State,
@@ -29,7 +31,7 @@ pub struct Reply {
 
 // What showing answers: the number, whether film's queue holds the next packet (else it is control's), and where in it the packet
 // stands.
-#[derive(Drop)]
+#[derive(Clone, Copy)]
 pub struct Shown {
     pub number: u8,
     pub film: bool,

@@ -1,5 +1,7 @@
 // RULES, The day file: a day's record on a table over a run, step by step and without the run: what the record asks of the run, and
 // what it comes to. Whoever holds the run answers, and alters it.
+#![tactic(auto)]
+
 pub mod asks;
 pub mod outcomes;
 
@@ -7,7 +9,7 @@ use links::{Head, Slot};
 use replay::Line;
 
 // The box but for its run and its output buffer, which are lent; the place of its next record, and how many lines it has so far.
-#[derive(Drop)]
+#[derive(Clone, Copy)]
 pub struct BoxHead {
     pub started: bool,
     pub head: Head,
@@ -17,7 +19,7 @@ pub struct BoxHead {
 
 // What a record comes to: its line; the box behind it; what is to be altered in the run, how many records are cleared and one record
 // with its place; and whether the record is broken, which ends the day.
-#[derive(Drop)]
+#[derive(Clone, Copy)]
 pub struct Outcome {
     pub line: Line,
     pub started: bool,

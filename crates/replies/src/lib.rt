@@ -1,4 +1,6 @@
 // RULES, Replies: the numbers of the table, by their meaning. The conditions stand in the specs of the crates that give them.
+#![tactic(auto)]
+
 pub const DONE: u8 = 0;
 
 pub const VALUE_OUT_OF_RANGE: u8 = 1;

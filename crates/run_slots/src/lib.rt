@@ -1,6 +1,8 @@
 // The records of a table that lie in a lent run: look for one, ask for those that overlap prefixes, read one, store one, clear the
 // first of them. Who holds the run lends it, and nothing of it is copied but the record that is asked for. None of the five asks
 // anything of its caller.
+#![tactic(auto)]
+
 ghost use Rattle.std.specs.Prelude.{◌≡◌, ◌<◌, ◌^◌, min, take, get_or, set};
 ghost use Rattle.prefixes.specs.Prefixes.{overlapping, listed_at};
 ghost use Rattle.links.specs.Slots.{dgvl_index, free, any, with};

@@ -1,6 +1,8 @@
 // RULES, A table over a run: the calls that alter the table, over a head by value and a lent run of link records. What a call decides is
 // decided by `table_calls`; here the records are looked for, read and stored where they lie. A refused call stores behind the last
 // record, where nothing is stored.
+#![tactic(auto)]
+
 ghost use Rattle.links.specs.Calls.{enable, disable, set_area, set_own};
 ghost use Rattle.links.specs.Run.{over, reply_over, start_over, Left, Begins};
 

@@ -1,5 +1,7 @@
 // RULES, A table over a run: what arrives and what leaves, over a head by value and a lent run of link records. What a call decides is
 // decided by `packet_calls`; here the records are looked for and read where they lie. Neither head nor run changes.
+#![tactic(auto)]
+
 ghost use Rattle.std.specs.Prelude.{◌≡◌};
 ghost use Rattle.links.specs.Run.{over};
 ghost use Rattle.traffic.specs.Arrives.{indication};

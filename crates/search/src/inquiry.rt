@@ -8,7 +8,7 @@ use links::Chosen;
 
 // Among the first `count` slots, for what; the number that refuses the call so far; and the link that is taken where no slot is
 // found. Of no slots nothing is found.
-#[derive(Drop)]
+#[derive(Clone, Copy)]
 pub struct Inquiry {
     pub number: u8,
     pub count: usize,

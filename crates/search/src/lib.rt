@@ -1,5 +1,7 @@
 // What is looked for among slots, and what a search finds. No layout of the table is here: each has a loop of its own, which asks the
 // one test of a slot and gives the one answer.
+#![tactic(auto)]
+
 pub mod inquiry;
 
 ghost use Rattle.std.specs.Prelude.{◌≡◌};
@@ -11,7 +13,7 @@ use prefix::Prefix;
 
 // Which slot is looked for, with what the question asks for. What holds an address is what has a prefix that overlaps the prefix of
 // that address alone.
-#[derive(Drop)]
+#[derive(Clone, Copy)]
 pub enum Wanted {
     Unused,
     SameGround(Area),
@@ -20,7 +22,7 @@ pub enum Wanted {
 
 // What a search finds: whether a slot is wanted, the place of the first, and its link. Where there is none, the number of slots that
 // it looked at, and the link that is given for none.
-#[derive(Drop)]
+#[derive(Clone, Copy)]
 pub struct Found {
     pub any: bool,
     pub place: usize,

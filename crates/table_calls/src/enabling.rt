@@ -54,7 +54,7 @@ pub fn ground(max: usize, records: usize, s: Settings) -> Inquiry
 
 // Among the first `count` slots the prefixes are asked for, where no number refuses the enable so far. There may be several: the
 // question is not one for a prefix alone.
-#[derive(Drop)]
+#[derive(Clone, Copy)]
 pub struct PrefixInquiry {
     pub number: u8,
     pub count: usize,

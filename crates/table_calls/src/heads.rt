@@ -59,7 +59,7 @@ pub fn set_own(head: Head, records: usize, mid: u64) -> HeadReply
 }
 
 // What a start over a run has done: its number, and how many records are cleared.
-#[derive(Drop)]
+#[derive(Clone, Copy)]
 pub struct StartOrder {
     pub number: u8,
     pub count: usize,

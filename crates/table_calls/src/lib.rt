@@ -1,6 +1,8 @@
 // RULES, Virtual links: the calls on the table, step by step and without the table: what a call asks of the slots, and what it makes
 // of the answer. Whoever holds the slots answers, by value or in a lent run, and carries out what the call comes to. `records` is how
 // many slots there are: with fewer than maximum - 1 the call is refused (23).
+#![tactic(auto)]
+
 pub mod enabling;
 pub mod heads;
 
@@ -12,7 +14,7 @@ use links::{Head, HeadReply, LinkIndex, PerhapsLink, Slot};
 
 // What a call changes: its number, the link that it gives, and one slot with its place. Nothing changes where the place is behind
 // the last slot.
-#[derive(Drop)]
+#[derive(Clone, Copy)]
 pub struct SlotChange {
     pub number: u8,
     pub link: PerhapsLink,

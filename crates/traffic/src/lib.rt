@@ -1,5 +1,7 @@
 // RULES, What arrives and What leaves: the types of indications and requests. What they are answered is defined in specs/,
 // and demand 3 is proved here of the definitions, for every layout of the table.
+#![tactic(auto)]
+
 use area::Area;
 use ipv6::PerhapsMid;
 use links::{LinkIndex, PerhapsLink};
@@ -14,7 +16,7 @@ pub const GEO_BROADCAST: u8 = 3;
 pub const TSB: u8 = 4;
 
 // A destination is a MID, an area, or nothing.
-#[derive(Drop)]
+#[derive(Clone, Copy)]
 pub enum Destination {
     Mid(u64),
     Within(Area),
@@ -22,7 +24,7 @@ pub enum Destination {
 }
 
 // An indication but for its packet, which is lent beside it.
-#[derive(Drop)]
+#[derive(Clone, Copy)]
 pub struct IndicationHead {
     pub transport: u8,
     pub source: u64,
@@ -31,7 +33,7 @@ pub struct IndicationHead {
 }
 
 // A request but for its packet, which is lent beside it.
-#[derive(Drop)]
+#[derive(Clone, Copy)]
 pub struct RequestHead {
     pub index: LinkIndex,
     pub class: u8,
@@ -39,7 +41,7 @@ pub struct RequestHead {
 }
 
 // What an indication answers; what is written stands in the lent buffer. The place is that of a fault in its packet.
-#[derive(Drop)]
+#[derive(Clone, Copy)]
 pub struct Reception {
     pub number: u8,
     pub place: usize,
@@ -50,7 +52,7 @@ pub struct Reception {
 }
 
 // What the question for the link of an indication answers, where no buffer is lent.
-#[derive(Drop)]
+#[derive(Clone, Copy)]
 pub struct Choice {
     pub number: u8,
     pub place: usize,
@@ -58,7 +60,7 @@ pub struct Choice {
 }
 
 // What a request answers: what goes down to GeoNetworking with its packet.
-#[derive(Drop)]
+#[derive(Clone, Copy)]
 pub struct Sending {
     pub number: u8,
     pub place: usize,
@@ -69,7 +71,7 @@ pub struct Sending {
 }
 
 // What the question for the interface address of a link answers.
-#[derive(Drop)]
+#[derive(Clone, Copy)]
 pub struct InterfaceAddress {
     pub number: u8,
     pub mid: u64,

@@ -1,5 +1,7 @@
 // The slots of a table by value: read one, and look for one. Every question about the enabled links, and the lowest unused index, is
 // asked of the one loop in `find`.
+#![tactic(auto)]
+
 pub mod index;
 
 ghost use Rattle.std.specs.Prelude.{◌≡◌, ◌-◌, ◌≤◌, min};

@@ -10,7 +10,7 @@ use table_calls::{SlotChange, enabling};
 
 // The number and the link of the reply, and what the table holds behind the call: its own MID, and one slot by its place. What does
 // not change is told as it was. The DGVL's area is not here: no covered form writes an enum into a table that stays where it is.
-#[derive(Drop)]
+#[derive(Clone, Copy)]
 pub struct Change {
     pub number: u8,
     pub link: PerhapsLink,

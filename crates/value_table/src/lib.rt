@@ -1,5 +1,7 @@
 // RULES, Virtual links: the calls that alter the table, over a table by value.
 // A call takes the table and returns it with the reply; a refusal returns it as it was.
+#![tactic(auto)]
+
 pub mod changes;
 
 ghost use Rattle.std.specs.Prelude.{◌≡◌, ◌<◌};

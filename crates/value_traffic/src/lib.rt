@@ -1,5 +1,7 @@
 // RULES, What arrives and What leaves, over a table by value: the link is looked for here, and the rest is `arrives` and
 // `leaves`. The table does not change.
+#![tactic(auto)]
+
 mod choice;
 
 ghost use Rattle.std.specs.Prelude.{◌≡◌};

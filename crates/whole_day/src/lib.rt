@@ -1,4 +1,6 @@
 // A whole day file replayed in one call that C can link: what the benchmark times.
+#![tactic(auto)]
+
 ghost use Rattle.std.specs.Prelude.{◌≡◌, length};
 ghost use Rattle.replay.specs.Day.{day_into, all_numbers, in_front};
 

@@ -1,0 +1,32 @@
+-- `ipv6::packet_refusal` meets its contract.
+use Prim.Native.Nat.{ℕ, ◌+◌}
+use mathlib.Core.Path.{◌≡◌, refl, sym}
+use mathlib.Core.Bool.{Bool, true, false, cond, not}
+use mathlib.Core.List.{List}
+use lib.Dec.{eqb}
+use lib.ListN.{length}
+use borrow.Author.Tests.{lt-ltb, le-ltb}
+use borrow.Author.Rules.{rules}
+use Rattle.replies.specs.Rules.{refusal}
+use Rattle.ipv6.specs.Packet.{version, packet_rules}
+use Rattle.ipv6.proofs.packet_refusal.Goals as goal
+
+pub returns-then-packet-gt1280 : goal.returns-then-packet-gt1280
+unfolding packet_rules
+returns-then-packet-gt1280 c = rw (lt-ltb _ _ c.if-packet-gt1280.true)
+
+pub returns-then-packet-lt40 : goal.returns-then-packet-lt40
+unfolding packet_rules
+returns-then-packet-lt40 c = rw (le-ltb _ _ c.if-packet-gt1280.false, lt-ltb _ _ c.if-packet-lt40.true)
+
+pub returns-then-wrong_version : goal.returns-then-wrong_version
+returns-then-wrong_version c = in_order c true _ _ c.if-wrong_version.true refl refl
+
+pub returns-then-wrong_length : goal.returns-then-wrong_length
+returns-then-wrong_length c = in_order c false true _ c.if-wrong_version.false c.if-wrong_length.true refl
+
+pub returns-then-forbidden : goal.returns-then-forbidden
+returns-then-forbidden c = in_order c false false true c.if-wrong_version.false c.if-wrong_length.false c.if-forbidden.true
+
+pub returns : goal.returns
+returns c = in_order c false false false c.if-wrong_version.false c.if-wrong_length.false c.if-forbidden.false

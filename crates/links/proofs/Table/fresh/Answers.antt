@@ -1,0 +1,10 @@
+-- `links::Table::fresh` meets its contract.
+use Prim.Native.Nat.{◌-◌}
+use borrow.Author.Rules.{rules}
+use Rattle.links.specs.Calls.{fresh}
+use Rattle.links.proofs.Laws.Fresh.{cleared-free}
+use Rattle.links.proofs.Table.fresh.Goals as goal
+
+pub returns : goal.returns
+unfolding fresh
+returns c = rw (c.blank_slot.ensures, cleared-free (c.args.v.max - 1) 64)

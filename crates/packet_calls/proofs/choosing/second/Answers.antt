@@ -1,0 +1,28 @@
+-- `packet_calls::choosing::second` meets its contract.
+use mathlib.Core.Path.{◌≡◌, sym, ◌∙◌, ap}
+use mathlib.Core.Bool.{Bool, true, false, cond, not, ◌&&◌}
+use lib.Dec.{eqb}
+use Rattle.prefix.specs.declared.Prefix.{Prefix}
+use Rattle.prefix.specs.Prefix.{of_address}
+use Rattle.ipv6.specs.Packet.{source}
+use Rattle.search.specs.declared.Found.{Found}
+use Rattle.search.specs.declared.Wanted.TheVariants.{Unused, Overlapping}
+use Rattle.search.specs.declared.inquiry.Inquiry.{Inquiry}
+use Rattle.search.specs.Inquiry.{asking}
+use Rattle.traffic.specs.Arrives.{Indication, indication}
+use Rattle.packet_calls.specs.Steps.{second_asked}
+use Rattle.packet_calls.proofs.choosing.second.Goals as goal
+
+pub returns-then-h-found : goal.returns-then-h-found
+returns-then-h-found c =
+    let args = c.args in
+    let x = indication args.h args.packet.now in
+    c.asking.ensures
+    ∙ ap (for-source args args.found x) (c.of_address-from.ensures ∙ ap of_address c.source_of.ensures)
+    ∙ by_test args args.found x true c.if-h-found.true
+
+pub returns : goal.returns
+returns c =
+    let args = c.args in
+    let x = indication args.h args.packet.now in
+    c.asking-2.ensures ∙ by_test args args.found x false c.if-h-found.false

@@ -1,0 +1,8 @@
+-- `prefix::good`: the constants of the code are fe80::/10 and ff00::/8.
+use Rattle.octets.specs.Digits.{number}
+use Rattle.prefix.specs.Prefix.{good_prefix}
+use Rattle.prefix.proofs.good.Goals as goal
+
+pub returns : goal.returns
+unfolding good_prefix number
+returns c = rw (c.clear_after.ensures, c.numbers_overlap.ensures, c.numbers_overlap-2.ensures)

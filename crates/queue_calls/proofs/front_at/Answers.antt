@@ -1,0 +1,33 @@
+-- `queue_calls::front_at` meets its contract.
+use native.Mathlib.Omega.{arith}
+use mathlib.Core.Path.{◌≡◌, sym, ◌∙◌}
+use borrow.Author.Rules.{rules}
+use Rattle.numbers.specs.Numbers.{read_at}
+use Rattle.numbers.specs.declared.Number.TheVariants.{Good}
+use Rattle.queue_calls.proofs.Laws.Front.{broken, too_long, cut, there, read_there}
+use Rattle.queue_calls.proofs.front_at.Goals as goal
+
+pub returns-in_default : goal.returns-in_default
+returns-in_default c =
+    let args = c.args in
+    broken args.held.now args.at (sym c.read.ensures ∙ c.enum_told-1.given.1)
+
+pub returns-then-length-gt-LONGEST : goal.returns-then-length-gt-LONGEST
+returns-then-length-gt-LONGEST c =
+    let args = c.args in
+    too_long args.held.now args.at _ _ (sym c.read.ensures ∙ c.length-1.given.1) (omega arith)
+
+pub overflow_sub-held : goal.overflow_sub-held
+overflow_sub-held c =
+    let args = c.args in
+    (read_there args.held.now args.at _ _ (sym c.read.ensures ∙ c.length-1.given.1)).within
+
+pub returns-then-held-start : goal.returns-then-held-start
+returns-then-held-start c =
+    let args = c.args in
+    cut args.held.now args.at _ _ (sym c.read.ensures ∙ c.length-1.given.1) (omega arith)
+
+pub returns : goal.returns
+returns c =
+    let args = c.args in
+    there args.held.now args.at _ _ (sym c.read.ensures ∙ c.length-1.given.1) (omega arith) (omega arith)

@@ -1,0 +1,26 @@
+-- `queue_calls::shown_in` meets its contract.
+use Prim.Native.Nat.{ℕ}
+use native.Mathlib.Omega.{arith}
+use native.Mathlib.Nat.{zero-add}
+use mathlib.Core.Path.{◌≡◌, refl, sym, ◌∙◌, ap}
+use borrow.Author.Rules.{rules}
+use Rattle.numbers.specs.declared.Number.{Number}
+use Rattle.numbers.specs.declared.Number.TheVariants.{Good, Broken}
+use Rattle.numbers.specs.Numbers.{shifted}
+use Rattle.queues.specs.Packets.{front}
+use Rattle.queues.specs.Calls.{shown_at}
+use Rattle.queue_calls.proofs.shown_in.Goals as goal
+
+at_front : (r : Number) → shifted 0 r ≡ r
+at_front (Good n k) = ap (λ (x : ℕ). Good n x) (zero-add k)
+at_front Broken = refl
+
+pub returns-in-Good : goal.returns-in-Good
+returns-in-Good c =
+    let args = c.args in
+    ap (shown_at args.film) (sym c.length-1.given.1 ∙ c.Front-at.ensures ∙ at_front (front args.held.now))
+
+pub returns-in-Broken : goal.returns-in-Broken
+returns-in-Broken c =
+    let args = c.args in
+    ap (shown_at args.film) (sym c.enum_told-1.given.1 ∙ c.Front-at.ensures ∙ at_front (front args.held.now))
