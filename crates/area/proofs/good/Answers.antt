@@ -5,4 +5,4 @@ use Rattle.area.proofs.good.Goals as goal
 
 pub returns : goal.returns
 unfolding good_area
-returns c = search (c.well-formed, rules)
+returns c = search (c.well_formed, rules)

@@ -13,10 +13,19 @@ use Rattle.area.proofs.Laws.Numbers.{eq_bits}
 use Rattle.area.proofs.Laws.Normal.{normal_centre}
 use Rattle.area.proofs.has_normal.Goals as goal
 
-latitudes : (c : tie.Start) → SFits w32 c.args.x.latitude × SFits w32 c.args.n.latitude
+module _ (x n : Area) where
+  latitude-apart : eq_z x.latitude n.latitude ≡ false → false ≡ has_normal x n
+  unfolding has_normal same_numbers
+  latitude-apart e = rw (ap (λ (z : ℤ). eq_z z n.latitude) (normal_centre x).0 ∙ e, and-false)
+
+  longitude-apart : eq_z (normal_longitude x.longitude) n.longitude ≡ false → false ≡ has_normal x n
+  unfolding has_normal same_numbers
+  longitude-apart e = rw (ap (λ (z : ℤ). eq_z z n.longitude) (normal_centre x).1 ∙ e, and-false)
+
+latitudes : (c : goal.Start) → SFits w32 c.args.x.latitude × SFits w32 c.args.n.latitude
 latitudes c = (search rules, search rules)
 
-longitudes : (c : tie.Start) → SFits w32 c.args.x.longitude × SFits w32 c.args.n.longitude
+longitudes : (c : goal.Start) → SFits w32 c.args.x.longitude × SFits w32 c.args.n.longitude
 longitudes c = (search rules, search rules)
 
 pub returns-then-x-n : goal.returns-then-x-n
@@ -33,7 +42,7 @@ returns-then-normal_longitude-n c =
     let fit = longitudes start in
     let longitude = c.normal_longitude in
     let is : longitude.result ≡ normal_longitude x.longitude = longitude.ensures ∙ ap normal_longitude (to_z-of_z w32 x.longitude fit.0) in
-    longitude-apart x n (ap (λ (z : ℤ). eq_z z n.longitude) (sym is) ∙ sym (eq_bits {x = longitude.result} (record { sfits = longitude.type-inv }) fit.1) ∙ ne_eqb _ _ c.if-normal_longitude-n.true)
+    longitude-apart x n (ap (λ (z : ℤ). eq_z z n.longitude) (sym is) ∙ sym (eq_bits {x = longitude.result} (record { sfits = longitude.type_inv }) fit.1) ∙ ne_eqb _ _ c.if-normal_longitude-n.true)
 
 pub returns : goal.returns
 unfolding has_normal

@@ -11,7 +11,7 @@ use Rattle.area.specs.Area.{eq_z}
 use Rattle.area.proofs.Laws.Numbers.{eq_bits}
 use Rattle.area.proofs.normal_longitude.Goals as goal
 
-fits : (c : tie.Start) → SFits w32 c.args.longitude
+fits : (c : goal.Start) → SFits w32 c.args.longitude
 fits c = search rules
 
 eastern : SFits w32 (pos 1_800_000_000)

@@ -6,4 +6,4 @@ use Rattle.area.proofs.same_numbers.Goals as goal
 
 pub returns : goal.returns
 unfolding same_numbers
-returns c = search (eq_bits, c.well-formed, rules)
+returns c = search (eq_bits, c.well_formed, rules)

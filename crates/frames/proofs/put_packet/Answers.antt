@@ -11,7 +11,7 @@ returns-then-packet-gt-LONGEST c =
     (c.copy.ensures.0, rw (take-length p) at c.copy.ensures.1)
 
 -- what the array holds up to the packet's length is the packet
-kept : (c : tie.After-copy2) → take c.copy-n.result c.copy-n.new.to ≡ c.args.packet.now
+kept : (c : goal.After-copy-n) → take c.copy-n.result c.copy-n.new.to ≡ c.args.packet.now
 kept c =
     let p = c.args.packet.now in
     rw (c.copy-n.ensures.1, c.copy-n.ensures.0, take-length p) (take-append_seam p _)

@@ -10,7 +10,19 @@ use Rattle.traffic.specs.Leaves.{Request, request, resolve_rules, sending, send_
 use Rattle.traffic.proofs.Laws.Send.{on_disabled, on_bad-packet, on_good-packet, many_without_area, many-sent, many-down, one_unknown, one-sent}
 use Rattle.leaves.proofs.send_on.Goals as goal
 
-multi : (c : tie.After-is-multicast) → multicast (destination c.args.packet.now) ≡ c.is_multicast.result
+-- the link is enabled and the packet good: multicast and neighbour decide
+module _ (c : goal.Else-bad-ne-DONE) where
+  abbrev link : Named
+  link = c.args.link
+
+  abbrev asked : Request
+  asked = let args = c.args in request args.h args.hop.now args.packet.now
+
+  passed : send_on link asked ≡ sending (refusal (resolve_rules link asked)) link asked
+  passed =
+      on_good-packet link asked (not-false _ c.if-not-link.false) (sym c.packet_refusal-bad.ensures ∙ c.if-bad-ne-DONE.false)
+
+multi : (c : goal.After-is_multicast) → multicast (destination c.args.packet.now) ≡ c.is_multicast.result
 multi c = sym (c.is_multicast.ensures ∙ ap multicast c.destination_of-far_end.ensures)
 
 pub returns-then-not-link : goal.returns-then-not-link

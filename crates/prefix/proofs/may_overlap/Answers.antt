@@ -11,11 +11,11 @@ use Rattle.prefix.specs.Prefix.{may_overlap}
 use Rattle.prefix.proofs.Laws.Overlap.{overlap_shorter}
 use Rattle.prefix.proofs.may_overlap.Goals as goal
 
-shorter : (c : tie.Joined1) → (let args = c.args in c.if-p-q.n ≡ min args.p.len args.q.len)
+shorter : (c : goal.Joined-p-q) → (let args = c.args in c.if-p-q.n ≡ min args.p.len args.q.len)
 shorter c = ⊎_elim (λ w. omega arith) (λ w. omega arith) c.if-p-q.branch
 
 -- the shorter has a bit, and no more than a word
-told : (c : tie.Else2) → (eqb c.if-p-q.n 0 ≡ false) × (ltb 64 c.if-p-q.n ≡ false)
+told : (c : goal.Else-n) → (eqb c.if-p-q.n 0 ≡ false) × (ltb 64 c.if-p-q.n ≡ false)
 told c = simp or-eq-false-eq-eq-false-and-eq-false at c.if-n.false
 
 pub returns-then-n : goal.returns-then-n

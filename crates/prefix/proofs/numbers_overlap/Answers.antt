@@ -14,10 +14,10 @@ returns-then-not-len-len2 c =
     let args = c.args in
     rw (overlap_shorter _ _, not-true (ltb 0 args.len && ltb 0 args.len2) c.if-not-len-len2.true)
 
-shorter : (c : tie.Joined2) → (let args = c.args in c.if-len-len2.n ≡ min args.len args.len2)
+shorter : (c : goal.Joined-len-len2) → (let args = c.args in c.if-len-len2.n ≡ min args.len args.len2)
 shorter c = ⊎_elim (λ w. omega arith) (λ w. omega arith) c.if-len-len2.branch
 
-neither-none : (c : tie.Joined2) → (let args = c.args in (ltb 0 args.len && ltb 0 args.len2) ≡ true)
+neither-none : (c : goal.Joined-len-len2) → (let args = c.args in (ltb 0 args.len && ltb 0 args.len2) ≡ true)
 neither-none c =
     let args = c.args in
     not-false (ltb 0 args.len && ltb 0 args.len2) c.if-not-len-len2.false

@@ -23,7 +23,7 @@ returns-then-n-le64 c =
     rw (same_words a.n a.high a.low a.high2 a.low2 (search rules) low (search rules) low2, none, div-eq_of_lt low, div-eq_of_lt low2, and-true)
 
 -- where the first word is asked for whole
-past : (c : tie.Else1) → (let a = c.args in
+past : (c : goal.Else-n-le64) → (let a = c.args in
     same (take a.n (bits (word_bytes a.high a.low))) (take a.n (bits (word_bytes a.high2 a.low2)))
     ≡ (eqb a.high a.high2 && eqb (a.low / 2 ^ (128 - a.n)) (a.low2 / 2 ^ (128 - a.n))))
 past c =

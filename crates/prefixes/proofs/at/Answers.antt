@@ -11,7 +11,7 @@ returns-then-s-k c =
     let a = c.args in
     rw (c.none.ensures, le-ltb a.k a.s.count (omega arith))
 
-four : (c : tie.Start) → (length c.args.s.lens ≡ 4) × (length c.args.s.highs ≡ 4) × (length c.args.s.lows ≡ 4)
+four : (c : goal.Start) → (length c.args.s.lens ≡ 4) × (length c.args.s.highs ≡ 4) × (length c.args.s.lows ≡ 4)
 four c = search rules
 
 pub returns-then-k-ge-MOST : goal.returns-then-k-ge-MOST

@@ -11,6 +11,13 @@ use Rattle.prefixes.proofs.Laws.Count.{one-of_four}
 use Rattle.prefixes.proofs.Laws.Listed.{meets_at_lem, meets-places}
 use Rattle.prefixes.proofs.meets.Goals as goal
 
+module _ (s : Prefixes) (p : Prefix) where
+  found : (k : ℕ) → k < 4 → meets_at_lem s p k ≡ true → true ≡ meets s p
+  found k h e = sym (meets-places s p ∙ one-of_four (meets_at_lem s p) k h e)
+
+  last : meets_at_lem s p 0 ≡ false → meets_at_lem s p 1 ≡ false → meets_at_lem s p 2 ≡ false → meets_at_lem s p 3 ≡ meets s p
+  last a b c = sym (meets-places s p ∙ rw (a, b, c))
+
 pub returns-then-meets_at : goal.returns-then-meets_at
 returns-then-meets_at c = found _ _ 0 (omega arith) (sym c.meets_at.ensures ∙ c.if-meets_at.true)
 

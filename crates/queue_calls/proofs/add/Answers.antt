@@ -27,6 +27,21 @@ lay-requires c =
     let fits = added_fits args.held args.queue.now args.packet.now c.add_refusal-number.result c.add_refusal-number.ensures c.if-number-ne-DONE.false in
     (c.write-run.ensures, omega (arith, fits.0, fits.1))
 
+-- what is held with the packet, in the numbers of the code, and that it fits
+module _ (c : goal.After-slice_known-2-1) where
+  needed : c.args.held + c.write-run.result.length + length c.args.packet.now
+      ≡ c.args.held + length (packed c.args.packet.now)
+  needed =
+      let args = c.args in
+      let write = c.write-run in
+      omega (arith, digits_count write.result (length args.packet.now) write.ensures, length-packed args.packet.now)
+
+  fits : c.args.held + length (packed c.args.packet.now) ≤ 4096
+  fits =
+      let args = c.args in
+      let judged = c.add_refusal-number in
+      (added_fits args.held args.queue.now args.packet.now judged.result judged.ensures c.if-number-ne-DONE.false).0
+
 pub overflow_add-result : goal.overflow_add-result
 overflow_add-result c = omega (arith, needed c, fits c)
 

@@ -21,13 +21,27 @@ returns-then-bad c =
     bad_queue args.held args.queue.now args.packet.now (sym c.is_good-bad.ensures ∙ not-true c.is_good-bad.result c.if-bad.true)
 
 -- the queue is good
-is : (c : tie.Else1) → good c.args.held c.args.queue.now ≡ true
+is : (c : goal.Else-bad) → good c.args.held c.args.queue.now ≡ true
 is c = sym c.is_good-bad.ensures ∙ not-false c.is_good-bad.result c.if-bad.false
 
 pub returns-then-long : goal.returns-then-long
 returns-then-long c =
     let args = c.args in
     long-packet args.held args.queue.now args.packet.now (is c) c.if-long.true
+
+module _ (c : goal.Else-long) where
+  few : c.args.held ≤ 4096
+  few = (good-fits _ _ (is c)).few
+
+  small : c.args.digits ≤ 2
+  small =
+      let args = c.args in
+      let short : length args.packet.now ≤ 1280 = ltb-false 1280 (length args.packet.now) c.if-long.false in
+      omega (arith, few-digits args.packet.now short, c.requires)
+
+  needed : c.args.held + length (packed c.args.packet.now)
+      ≡ c.args.held + c.args.digits + length c.args.packet.now
+  needed = omega (arith, length-packed c.args.packet.now, c.requires)
 
 pub overflow_add-held : goal.overflow_add-held
 overflow_add-held c = omega (arith, few c, small c)

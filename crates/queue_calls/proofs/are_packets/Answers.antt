@@ -17,7 +17,7 @@ returns-in_default c =
     not_found held at (omega arith) (sym c.Front-at.ensures ∙ c.enum_told-1.given.1) ∙ sym c.loop-at.invariant.1
 
 -- the packet that a turn goes past
-past : (c : tie.After-known-told invariant-loop decreases-loop) → Found c.args.held.now c.loop-at.at c.length-1.given.0.0 c.length-1.given.0.1.0
+past : (c : goal.In-Good invariant-loop decreases-loop) → Found c.args.held.now c.loop-at.at c.length-1.given.0.0 c.length-1.given.0.1.0
 past c =
     found c.args.held.now
     c.loop-at.at
@@ -27,7 +27,7 @@ past c =
     (sym c.Front-at.ensures ∙ c.length-1.given.1)
 
 pub overflow_add-at : goal.overflow_add-at
-overflow_add-at c = omega (arith, (past c).within, c.well-formed.0)
+overflow_add-at c = omega (arith, (past c).within, c.well_formed.0)
 
 pub loop-at-smaller : goal.loop-at-smaller
 loop-at-smaller c = omega (arith, (past c).on, (past c).within)

@@ -11,8 +11,16 @@ use Rattle.queues.proofs.Laws.Packets.{length-packed}
 use Rattle.queue_calls.proofs.Laws.Laid.{digits_of, digits_count, first-laid, long_as_before, put-fits, second-laid, is_laid}
 use Rattle.queue_calls.proofs.lay.Goals as goal
 
+-- there is room for digits and packet
+module _ (c : goal.After-shared_slice_known-1) where
+  count : c.args.t3.length ≡ length (number_bytes (length c.args.packet.now))
+  count = digits_count c.args.t3 (length c.args.packet.now) c.requires.0
+
+  room : c.args.held + c.args.t3.length + length c.args.packet.now ≤ length c.args.queue.now
+  room = omega (arith, count, c.requires.1, length-packed c.args.packet.now)
+
 pub overflow_add-at : goal.overflow_add-at
-overflow_add-at c = omega (arith, room c, c.well-formed.0)
+overflow_add-at c = omega (arith, room c, c.well_formed.0)
 
 pub slice_bounds-copy-count : goal.slice_bounds-copy-count
 slice_bounds-copy-count c = omega (arith, room c)
@@ -21,7 +29,7 @@ pub slice_bounds-copy-start : goal.slice_bounds-copy-start
 slice_bounds-copy-start c = omega (arith, room c)
 
 -- what is copied is the digits
-digits : (c : tie.After-part) → c.part.result.now ≡ number_bytes (length c.args.packet.now)
+digits : (c : goal.After-part) → c.part.result.now ≡ number_bytes (length c.args.packet.now)
 digits c = c.part.ensures ∙ digits_of c.args.t3 (length c.args.packet.now) c.requires.0
 
 pub copy-requires : goal.copy-requires
@@ -31,7 +39,7 @@ copy-requires c =
     rw (digits c) (omega (arith, count here, room here, length-take (length args.queue.now - args.held) (drop args.held args.queue.now), length-drop args.held args.queue.now))
 
 -- the queue with the digits in it
-with-digits : (c : tie.After-copy) →
+with-digits : (c : goal.After-copy) →
     take c.args.held c.args.queue.now
     ++ (c.copy.new.to ++ drop (length c.args.queue.now - c.args.held) (drop c.args.held c.args.queue.now))
     ≡ (take c.args.held c.args.queue.now ++ number_bytes (length c.args.packet.now))

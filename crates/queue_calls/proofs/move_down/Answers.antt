@@ -10,7 +10,7 @@ use Rattle.queue_calls.proofs.Laws.Moved.{held-behind, behind-length}
 use Rattle.queue_calls.proofs.move_down.Goals as goal
 
 -- what the array holds is the bytes that stay
-kept : (c : tie.After-copy) → take c.copy-rest.result c.copy-rest.new.to
+kept : (c : goal.After-copy-rest) → take c.copy-rest.result c.copy-rest.new.to
     ≡ take (c.args.held - c.args.n) (drop c.args.n c.args.queue.now)
 kept c =
     let args = c.args in

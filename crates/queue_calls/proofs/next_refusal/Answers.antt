@@ -7,7 +7,7 @@ use Rattle.queue_calls.proofs.Laws.Refused.{bad_queues, by_packets}
 use Rattle.queue_calls.proofs.next_refusal.Goals as goal
 
 -- both queues are judged, each with the bytes held in it
-judged : (c : tie.After-is-good2) → (good c.args.state.control c.args.control.now && good c.args.state.film c.args.film.now)
+judged : (c : goal.After-is_good-2) → (good c.args.state.control c.args.control.now && good c.args.state.film c.args.film.now)
     ≡ (c.is_good.result && c.is_good-2.result)
 judged c = ap₂ ◌&&◌ (sym c.is_good.ensures) (sym c.is_good-2.ensures)
 

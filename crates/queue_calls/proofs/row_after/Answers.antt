@@ -25,7 +25,7 @@ pub returns-then-film_goes-state : goal.returns-then-film_goes-state
 returns-then-film_goes-state c = sym (rw (← c.film_goes.ensures, c.if-film_goes-state.true))
 
 -- the test of the code is that of the definition
-goes_on : (c : tie.Else1) → (film_goes c.args.state || eqb c.args.state.film 0) ≡ false
+goes_on : (c : goal.Else-film_goes-state) → (film_goes c.args.state || eqb c.args.state.film 0) ≡ false
 goes_on c = rw (← c.film_goes.ensures) c.if-film_goes-state.false
 
 pub overflow_add-result : goal.overflow_add-result

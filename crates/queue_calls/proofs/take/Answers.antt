@@ -15,6 +15,16 @@ returns-then-shown-ne-DONE c =
     let is = not_taken args.state args.control.now args.film.now c.show-shown.result c.show-shown.ensures c.if-shown-ne-DONE.true in
     (ap (λ (q : Queues). q.reply) is, ap (λ (q : Queues). q.control) is, ap (λ (q : Queues). q.film) is)
 
+-- the packet that goes lies in its queue, whichever that is
+module _ (c : goal.After-struct_known-2-1) (film : Bool) where
+  lies-there : c.show-shown.result.film ≡ film
+      → InQueue c.show-shown.result
+      (cond film c.args.state.film c.args.state.control)
+      (cond film c.args.film.now c.args.control.now)
+  lies-there f =
+      let args = c.args in
+      in_queue args.state args.control.now args.film.now c.show-shown.result film c.show-shown.ensures c.if-shown-ne-DONE.false f
+
 pub overflow_add-n : goal.overflow_add-n
 overflow_add-n c =
     let there = lies-there c c.show-shown.result.film refl in

@@ -19,7 +19,7 @@ four (a ∷ b ∷ c ∷ []) e = absurd (omega (arith, e))
 four (a ∷ b ∷ c ∷ d ∷ []) e = refl
 four (a ∷ b ∷ c ∷ d ∷ f ∷ l) e = absurd (omega (arith, e))
 
-fits : (c : tie.Start) → SFits w32 c.args.x.settings.area.latitude × SFits w32 c.args.x.settings.area.longitude
+fits : (c : goal.Start) → SFits w32 c.args.x.settings.area.latitude × SFits w32 c.args.x.settings.area.longitude
 fits c = (search rules, search rules)
 
 pub returns : goal.returns

@@ -12,7 +12,7 @@ returns-then-enabled c = rw (eq-eqb _ _ c.if-sort-eq-OVERLAPPING.true, c.if-enab
 pub returns-else-enabled : goal.returns-else-enabled
 returns-else-enabled c = rw (eq-eqb _ _ c.if-sort-eq-OVERLAPPING.true, c.if-enabled.false)
 
-latitudes : (c : tie.Start) → SFits w32 c.args.x.settings.area.latitude × SFits w32 c.args.n.latitude
+latitudes : (c : goal.Start) → SFits w32 c.args.x.settings.area.latitude × SFits w32 c.args.n.latitude
 latitudes c = (search rules, search rules)
 
 pub returns-then-sort-eq-SAME_GROUND : goal.returns-then-sort-eq-SAME_GROUND

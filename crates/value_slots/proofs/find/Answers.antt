@@ -24,16 +24,16 @@ abbrev kind-of : Slot → ℕ
 kind-of x = x.settings.interface.kind
 
 -- the call, its table, and the question as the loop is told it
-abbrev entry : tie.After-prefix-of invariant-loop decreases-loop → tie.Start invariant-loop decreases-loop
+abbrev entry : goal.After-prefix_of-prefix invariant-loop decreases-loop → goal.Start invariant-loop decreases-loop
 entry c = c
 
-abbrev table : tie.After-prefix-of invariant-loop decreases-loop → Table
+abbrev table : goal.After-prefix_of-prefix invariant-loop decreases-loop → Table
 table c = (entry c).args.t1
 
-abbrev asked_of : tie.After-prefix-of invariant-loop decreases-loop → Slot → Bool
+abbrev asked_of : goal.After-prefix_of-prefix invariant-loop decreases-loop → Slot → Bool
 asked_of c = fits (question c.sort_of-sort.result c.area_of-area.result c.prefix_of-prefix.result)
 
-all : (c : tie.Start invariant-loop decreases-loop) → length c.args.t1.slots ≡ 64
+all : (c : goal.Start invariant-loop decreases-loop) → length c.args.t1.slots ≡ 64
 all c = search (length_mapped, rules)
 
 pub loop-i-init : goal.loop-i-init
@@ -51,7 +51,7 @@ pub index_of-requires : goal.index_of-requires
 index_of-requires c = omega (arith, c.slot_count-n.ensures)
 
 -- what was found for the question was found for what is wanted
-for-wanted : (c : tie.After-prefix-of invariant-loop decreases-loop) (f : Found) → f ≡ found (table c) (asked_of c) → f ≡ found (table c) (passes (entry c).args.wanted)
+for-wanted : (c : goal.After-prefix_of-prefix invariant-loop decreases-loop) (f : Found) → f ≡ found (table c) (asked_of c) → f ≡ found (table c) (passes (entry c).args.wanted)
 for-wanted c f e =
     let told : question c.sort_of-sort.result c.area_of-area.result c.prefix_of-prefix.result ≡ c.as_asked-question.result =
     rw (c.sort_of-sort.ensures, c.area_of-area.ensures, c.prefix_of-prefix.ensures) (told_by_parts _) in

@@ -20,6 +20,16 @@ use Rattle.search.specs.Search.{passes}
 use Rattle.search.proofs.Laws.Overlaps.{asked_at, asked_by_place, none_past}
 use Rattle.value_slots.proofs.overlapping.Goals as goal
 
+module _ (l : List Slot) (s : Prefixes) where
+  abbrev whole : Bool
+  whole = any (with (λ x. overlapping x.prefixes s)) l
+
+  nowhere : asked_at l s 0 ≡ false → asked_at l s 1 ≡ false → asked_at l s 2 ≡ false → asked_at l s 3 ≡ false → false ≡ whole
+  nowhere a b c d = sym (asked_by_place l s ∙ rw (a, b, c, d))
+
+  somewhere : (k : ℕ) → k < 4 → asked_at l s k ≡ true → true ≡ whole
+  somewhere k h e = sym (asked_by_place l s ∙ one-of_four (asked_at l s) k h e)
+
 pub loop-k-init : goal.loop-k-init
 loop-k-init c = (search rules, λ j h. absurd (omega arith))
 
@@ -30,14 +40,14 @@ returns-then-s-k c =
     nowhere l s (not-here c 0) (not-here c 1) (not-here c 2) (not-here c 3)
   where
     -- a place before was asked for, and one from here on is not listed
-    not-here : (c : tie.Then1 invariant-loop decreases-loop) (j : ℕ) → asked_at (counted c.args.t) c.args.s j ≡ false
+    not-here : (c : goal.Then-s-k invariant-loop decreases-loop) (j : ℕ) → asked_at (counted c.args.t) c.args.s j ≡ false
     not-here c j = go (ltb j c.loop-k.k) refl
       where
         go : (b : Bool) → ltb j c.loop-k.k ≡ b → asked_at (counted c.args.t) c.args.s j ≡ false
         go true e = c.loop-k.invariant.1 j (ltb-true j _ e)
         go false e = none_past _ c.args.s j (omega (arith, ltb-false j _ e))
 
-found-is : (c : tie.After-find invariant-loop decreases-loop)
+found-is : (c : goal.After-find-found invariant-loop decreases-loop)
     → c.find-found.result.any ≡ asked_at (counted c.args.t) c.args.s c.loop-k.k
 found-is c =
     let t = c.args.t in

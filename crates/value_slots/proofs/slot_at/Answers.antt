@@ -9,7 +9,7 @@ use Rattle.value_slots.specs.Search.{slot_from}
 use Rattle.value_slots.proofs.Laws.Place.{place-fits, from_place}
 use Rattle.value_slots.proofs.slot_at.Goals as goal
 
-all : (c : tie.Start) → length c.args.t1.slots ≡ 64
+all : (c : goal.Start) → length c.args.t1.slots ≡ 64
 all c = search (length_mapped, rules)
 
 pub bounds-t-k : goal.bounds-t-k

@@ -7,7 +7,7 @@ use Rattle.value_table.specs.Changes.{carried_out}
 use Rattle.value_table.proofs.Laws.Changes.{enable-carried_out, enable-place}
 use Rattle.value_table.proofs.enable.Goals as goal
 
-all : (c : tie.Start) → length c.args.t.slots ≡ 64
+all : (c : goal.Start) → length c.args.t.slots ≡ 64
 all c = search (length_mapped, rules)
 
 pub carried_out-requires : goal.carried_out-requires

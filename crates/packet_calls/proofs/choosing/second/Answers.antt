@@ -13,6 +13,15 @@ use Rattle.traffic.specs.Arrives.{Indication, indication}
 use Rattle.packet_calls.specs.Steps.{second_asked}
 use Rattle.packet_calls.proofs.choosing.second.Goals as goal
 
+module _ (i : Inquiry) (f : Found) (x : Indication) where
+  abbrev for-source : Prefix → Inquiry
+  for-source p = asking i.number i.count (Overlapping p) f.link
+
+  -- by whether the source is asked for
+  by_test : (b : Bool) → (eqb x.transport 1 && not f.any) ≡ b
+      → cond b (for-source (of_address (source x.packet))) (asking i.number 0 Unused f.link) ≡ second_asked i f x
+  by_test b e = ap (λ (t : Bool). cond t (for-source (of_address (source x.packet))) (asking i.number 0 Unused f.link)) (sym e)
+
 pub returns-then-h-found : goal.returns-then-h-found
 returns-then-h-found c =
     let args = c.args in

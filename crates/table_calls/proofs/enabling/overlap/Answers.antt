@@ -8,7 +8,7 @@ use Rattle.table_calls.specs.Steps.{overlap_asked}
 use Rattle.table_calls.proofs.enabling.overlap.Goals as goal
 
 -- the number behind 4, and behind 5 within the call
-number_is : (c : tie.After-after2) → (let args = c.args in
+number_is : (c : goal.After-after-number) → (let args = c.args in
     c.after-number.result ≡ (overlap_asked args args.same args.s).number)
 unfolding overlaps_itself
 number_is c =

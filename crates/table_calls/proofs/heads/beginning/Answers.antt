@@ -11,7 +11,7 @@ use Rattle.table_calls.proofs.Laws.Numbers.{first_of}
 use Rattle.table_calls.proofs.heads.beginning.Goals as goal
 
 -- the number is that of the values, and then 23
-given : (c : tie.After-after) → let args = c.args in refusal (start_values 4093 args.v ++ (23 if ltb args.records (args.v.max - 1) then [])) ≡ c.after-number.result
+given : (c : goal.After-after-number) → let args = c.args in refusal (start_values 4093 args.v ++ (23 if ltb args.records (args.v.max - 1) then [])) ≡ c.after-number.result
 given c =
     let args = c.args in
     first_of (start_values 4093 args.v) (23 if ltb args.records (args.v.max - 1) then []) (start_numbered 4093 args.v)

@@ -14,7 +14,7 @@ use Rattle.value_table.proofs.Laws.Decided.{answers, asked-number, enable-refuse
 use Rattle.value_table.proofs.changes.enable.Goals as goal
 
 -- what is asked behind the answers so far
-asks-for-prefixes : (c : tie.After-overlap) → let args = c.args in
+asks-for-prefixes : (c : goal.After-overlap-overlap) → let args = c.args in
     c.overlap-overlap.result ≡ prefix_asking (by_own 65 64 args.s (counted args.t)) 64
 asks-for-prefixes c =
     let args = c.args in
@@ -23,7 +23,7 @@ asks-for-prefixes c =
     (answers args.t (refusal (enable_rules 65 64 args.s)) (SameGround args.s.area) g.result c.find-same.result g.ensures c.find-same.ensures)
     c.overlap-overlap.ensures
 
-asks-for-unused : (c : tie.After-unused) → let args = c.args in
+asks-for-unused : (c : goal.After-unused-unused) → let args = c.args in
     c.unused-unused.result ≡ asking (by_prefix 65 64 args.s (counted args.t)) 64 Unused no_link
 unfolding overlaps
 asks-for-unused c =

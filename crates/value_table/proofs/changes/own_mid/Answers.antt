@@ -13,7 +13,7 @@ use Rattle.value_table.specs.Changes.{own_change}
 use Rattle.value_table.proofs.Laws.Changes.{change_refused, change_done}
 use Rattle.value_table.proofs.changes.own_mid.Goals as goal
 
-all : (c : tie.Start) → length c.args.t1.slots ≡ 64
+all : (c : goal.Start) → length c.args.t1.slots ≡ 64
 all c = search (length_mapped, rules)
 
 pub returns-then-not-mid_ok : goal.returns-then-not-mid_ok

@@ -8,7 +8,7 @@ use Rattle.links.specs.Slots.{free}
 use Rattle.links.proofs.Laws.Counted.{any_default}
 use Rattle.value_table.proofs.changes.unchanged.Goals as goal
 
-all : (c : tie.Start) → length c.args.t1.slots ≡ 64
+all : (c : goal.Start) → length c.args.t1.slots ≡ 64
 all c = search (length_mapped, rules)
 
 pub returns : goal.returns

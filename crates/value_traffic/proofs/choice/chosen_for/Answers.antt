@@ -34,11 +34,11 @@ returns-then-transport-eq-TSB c =
     ∙ chosen_by_index args.t x
 
 -- an address of the packet is bytes
-address : (c : tie.After-shared-slice-known) (k : ℕ) → Below 256 (take 16 (drop k c.args.packet.now))
+address : (c : goal.After-shared_slice_known-1) (k : ℕ) → Below 256 (take 16 (drop k c.args.packet.now))
 address c k = below_part 256 c.args.packet.now k 16 (lit< tt) (λ i. (c.shared_slice_known-1.given i).fits)
 
 -- what was found for the destination
-found-to : (c : tie.After-find) → c.find-reached.result ≡ found c.args.t (passes (Overlapping (of_address (destination c.args.packet.now))))
+found-to : (c : goal.After-find-reached) → c.find-reached.result ≡ found c.args.t (passes (Overlapping (of_address (destination c.args.packet.now))))
 found-to c =
     c.find-reached.ensures ∙ ap (λ (p : Prefix). found c.args.t (passes (Overlapping p))) (c.of_address-to.ensures ∙ ap of_address c.destination_of.ensures)
 
@@ -68,7 +68,7 @@ returns-then-transport-eq-GEO_UNICAST c =
     ∙ chosen_by_index args.t x
 
 -- whether line 2 is asked
-by_area_lem : (c : tie.After-goes-by-area) → let transport = c.args.h.transport in (eqb transport 2 || eqb transport 3) ≡ c.goes_by_area.result
+by_area_lem : (c : goal.After-goes_by_area) → let transport = c.args.h.transport in (eqb transport 2 || eqb transport 3) ≡ c.goes_by_area.result
 by_area_lem c = sym c.goes_by_area.ensures
 
 pub returns-then-not-goes_by_area : goal.returns-then-not-goes_by_area
@@ -92,7 +92,7 @@ returns-in-Within c =
     ∙ chosen_by_index args.t x
 
 -- a destination that is no area is that of no stop link
-elsewhere : (c : tie.Else4) → let args = c.args in
+elsewhere : (c : goal.Else-not-goes_by_area) → let args = c.args in
     ((b : Area) → is_area args.h.destination b ≡ false)
     → record { index = dgvl_index; kind = args.t.dgvl.kind } ≡ chosen_for args.t (indication args.h args.packet.now)
 elsewhere c none =
