@@ -32,13 +32,13 @@ unfolding packet_rules
 returns-then-packet-lt40 c = rw (le-ltb _ _ c.if-packet-gt1280.false, lt-ltb _ _ c.if-packet-lt40.true)
 
 pub returns-then-wrong_version : goal.returns-then-wrong_version
-returns-then-wrong_version c = in_order c true _ _ c.if-wrong_version.true refl refl
+returns-then-wrong_version c = in_order (goal.at.returns-then-wrong_version c).After-is_forbidden-forbidden true _ _ c.if-wrong_version.true refl refl
 
 pub returns-then-wrong_length : goal.returns-then-wrong_length
-returns-then-wrong_length c = in_order c false true _ c.if-wrong_version.false c.if-wrong_length.true refl
+returns-then-wrong_length c = in_order (goal.at.returns-then-wrong_length c).After-is_forbidden-forbidden false true _ c.if-wrong_version.false c.if-wrong_length.true refl
 
 pub returns-then-forbidden : goal.returns-then-forbidden
-returns-then-forbidden c = in_order c false false true c.if-wrong_version.false c.if-wrong_length.false c.if-forbidden.true
+returns-then-forbidden c = in_order (goal.at.returns-then-forbidden c).After-is_forbidden-forbidden false false true c.if-wrong_version.false c.if-wrong_length.false c.if-forbidden.true
 
 pub returns : goal.returns
-returns c = in_order c false false false c.if-wrong_version.false c.if-wrong_length.false c.if-forbidden.false
+returns c = in_order (goal.at.returns c).After-is_forbidden-forbidden false false false c.if-wrong_version.false c.if-wrong_length.false c.if-forbidden.false
