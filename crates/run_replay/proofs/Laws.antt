@@ -1,5 +1,2 @@
--- What the walks of this crate have in common.
-pub mod Sorts
-pub mod Searches
+-- The loop through a day over a run.
 pub mod Days
-pub mod Lends
