@@ -18,7 +18,7 @@ use Rattle.search.specs.declared.Wanted.{Wanted}
 use Rattle.search.specs.declared.Wanted.TheVariants.{Unused, SameGround, Overlapping}
 use Rattle.search.specs.Search.{link_of, fits, may_fit, sort_of, area_of, prefix_of, question, found_in}
 use Rattle.search.proofs.Laws.Asked.{told_by_parts, fits_may}
-use Rattle.search.proofs.Laws.Found.{found_at_lem, found_none}
+use Rattle.search.proofs.Laws.Found.{found_at_lem, found_none as found_none_lem}
 use Rattle.run_slots.specs.Run.{found_at, found_none}
 
 is_true : (b : Bool) → T b → b ≡ true
@@ -84,4 +84,4 @@ module _ (count : ℕ) (ys : List Slot) (q : Slot → Bool) where
 
     pub at_none : (otherwise : Chosen) → n ≤ i → found_none i otherwise ≡ found_in (take count ys) q otherwise
     unfolding Behind
-    at_none otherwise h = found_none (take count ys) q otherwise i (end q (take count ys) b free h) (omega (arith, h, b.count))
+    at_none otherwise h = found_none_lem (take count ys) q otherwise i (end q (take count ys) b free h) (omega (arith, h, b.count))
