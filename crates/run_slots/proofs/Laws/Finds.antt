@@ -1,24 +1,20 @@
--- What the loop of `look` keeps, and what it answers at each of its ends; and that `find` hands it the whole question.
+-- What the loop of `look` keeps, and what it answers at each of its ends.
 use Prim.Native.Nat.{ℕ, ◌+◌, ◌≤◌, ◌<◌, min}
 use native.Mathlib.Omega.{arith}
-use mathlib.Core.Path.{◌≡◌, refl, sym, ◌∙◌, ap, subst}
-use mathlib.Core.Bool.{Bool, true, false, not}
+use mathlib.Core.Path.{◌≡◌, refl, sym, ◌∙◌, ap}
+use mathlib.Core.Bool.{Bool, true, false}
 use mathlib.Core.List.{List}
-use lib.Dec.{T, eqb}
 use lib.ListN.{length, get_or, take, length-take}
 use lib.Seq.{get_or-take}
 use Rattle.octets.proofs.Laws.Tests.{clash}
-use Rattle.area.specs.declared.Area.{Area}
-use Rattle.prefix.specs.declared.Prefix.{Prefix}
 use Rattle.links.specs.declared.Chosen.{Chosen}
 use Rattle.links.specs.declared.Slot.{Slot}
 use Rattle.links.specs.Slots.{free}
 use Rattle.links.proofs.Laws.Counted.{any_default}
-use Rattle.links.proofs.Laws.Search.{Looking, start, hit, pass, end}
+use Rattle.links.proofs.Laws.Search.{Looking, hit, pass, end}
 use Rattle.search.specs.declared.Wanted.{Wanted}
-use Rattle.search.specs.declared.Wanted.TheVariants.{Unused, SameGround, Overlapping}
-use Rattle.search.specs.Search.{link_of, fits, may_fit, sort_of, area_of, prefix_of, question, found_in}
-use Rattle.search.proofs.Laws.Asked.{told_by_parts, fits_may}
+use Rattle.search.specs.Search.{link_of, fits, may_fit, found_in}
+use Rattle.search.proofs.Laws.Asked.{fits_may}
 use Rattle.search.proofs.Laws.Found.{found_at_lem, found_none as found_none_lem}
 use Rattle.run_slots.specs.Run.{found_at, found_none}
 
@@ -30,23 +26,10 @@ passed_over u x e = go (fits u x) refl
     go true h = clash (fits_may u x h) e
     go false h = refl
 
--- a question that is asked by its sort as a constant
-pub asks_it : (u : Wanted) {k r : ℕ} {a : Area} {p : Prefix} → r ≡ sort_of u → a ≡ area_of u → p ≡ prefix_of u → r ≡ k → question k a p ≡ u
-asks_it u er ea ep e = rw (← e, er, ea, ep) (told_by_parts u)
-
--- what is neither of the first two sorts is of the third
-pub the_third : (u : Wanted) {r : ℕ} → r ≡ sort_of u → (r ≡ 0 → ⊥) → (r ≡ 1 → ⊥) → r ≡ 2
-the_third Unused e first second = absurd (first e)
-the_third (SameGround a) e first second = absurd (second e)
-the_third (Overlapping p) e first second = e
-
 module _ (count : ℕ) (ys : List Slot) (q : Slot → Bool) where
   -- none of the first i of the n records that count passes
   abbrev pub Behind : ℕ → ℕ → Type 0
   Behind n i = Looking q (take count ys) n i
-
-  pub began : {n : ℕ} → n ≡ min count (length ys) → Behind n 0
-  began e = start q (take count ys) (e ∙ sym (length-take count ys))
 
   module _ {n i : ℕ} (b : Behind n i) where
     within : i < n → i < length (take count ys)
