@@ -15,8 +15,9 @@ loop-i-preserved c =
     let asked = question c.args.sort c.args.area c.args.prefix in
     passed c.args.count c.args.run.now (fits asked) c.loop-i.invariant _ c.loop-i-test.true
     (elim c.if-may_be_wanted.branch [
-      then-may_be_wanted+else-is_wanted w ↦ sym w.is_wanted.ensures ∙ w.if-is_wanted.false
-    | else-may_be_wanted w ↦ passed_over asked _ (sym c.may_be_wanted.ensures ∙ w.if-may_be_wanted.false) ])
+      | then-may_be_wanted+else-is_wanted w ↦ sym w.is_wanted.ensures ∙ w.if-is_wanted.false
+      | else-may_be_wanted w ↦ passed_over asked _ (sym c.may_be_wanted.ensures ∙ w.if-may_be_wanted.false)
+    ])
 
 pub returns : goal.returns
 returns c = c.found_none.ensures ∙ at_none c.args.count c.args.run.now (fits (question c.args.sort c.args.area c.args.prefix)) c.loop-i.invariant c.args.otherwise c.loop-i-test.false

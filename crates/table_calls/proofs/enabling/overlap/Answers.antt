@@ -21,10 +21,14 @@ number_is i same s by_area number within a w n =
 
 pub returns-then-number-ne-DONE : goal.returns-then-number-ne-DONE
 returns-then-number-ne-DONE c =
-    rw (← number_is c.args.before c.args.same c.args.s _ _ _ c.after-by_area.ensures c.overlap_within-within.ensures c.after-number.ensures,
-    ne_eqb _ 0 c.if-number-ne-DONE.true)
+    rw (
+      ← number_is c.args.before c.args.same c.args.s _ _ _ c.after-by_area.ensures c.overlap_within-within.ensures c.after-number.ensures,
+      ne_eqb _ 0 c.if-number-ne-DONE.true,
+    )
 
 pub returns : goal.returns
 returns c =
-    rw (← number_is c.args.before c.args.same c.args.s _ _ _ c.after-by_area.ensures c.overlap_within-within.ensures c.after-number.ensures,
-    eq-eqb _ 0 c.if-number-ne-DONE.false)
+    rw (
+      ← number_is c.args.before c.args.same c.args.s _ _ _ c.after-by_area.ensures c.overlap_within-within.ensures c.after-number.ensures,
+      eq-eqb _ 0 c.if-number-ne-DONE.false,
+    )

@@ -26,5 +26,7 @@ returns-then-number-ne-DONE c =
 
 pub returns : goal.returns
 returns c =
-    rw (given c.args.records c.args.v _ _ _ c.too_short-short.ensures c.start_refusal-bad.ensures c.after-number.ensures ∙ c.if-number-ne-DONE.false,
-    c.slot_count.ensures)
+    rw (
+      given c.args.records c.args.v _ _ _ c.too_short-short.ensures c.start_refusal-bad.ensures c.after-number.ensures ∙ c.if-number-ne-DONE.false,
+      c.slot_count.ensures,
+    )
