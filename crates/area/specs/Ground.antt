@@ -63,7 +63,7 @@ pub record NormalForms : Type 0 where
   pub joined : (x : Area) → Good x → Chain x (normal x)
   pub good : (x : Area) → Good x → Good (normal x)
   pub again : (x : Area) → normal (normal x) ≡ normal x
-  pub none_before_lem : (x y : Area) → Chain x y → comes_before y (normal x) ≡ false
+  pub none_before : (x y : Area) → Chain x y → comes_before y (normal x) ≡ false
   pub first : (x y : Area) → Chain x y → (y ≡ normal x) ⊎ (comes_before (normal x) y ≡ true)
 
 -- what the calls ask: the test passes exactly when a chain joins the two

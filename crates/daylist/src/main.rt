@@ -1,13 +1,15 @@
 // RULES, The listing: the listing of the day file on standard input. What is written is the text that proved functions gave; what
-// went wrong is told on standard error, because a Rattle program can set no exit status.
+// went wrong is told on standard error, of which the command ./daylist makes the exit status.
 #![tactic(auto)]
 
-ghost use Rattle.std.specs.Prelude.{◌≡◌, length};
+ghost use Rattle.std.specs.Prelude.{◌≡◌, ◌≤◌, length};
 ghost use Rattle.replay.specs.Day.{all_numbers, in_front};
 ghost use Rattle.listing.specs.Room.{text_buffer};
 ghost use Rattle.daylist.specs.Listing.{most_bytes, day_into, lines_of, listed_of};
 
-use libc::{STDERR_FILENO, STDIN_FILENO, STDOUT_FILENO};
+use std::alloc::AllocError;
+use std::env::{Env, FillError};
+use std::io::{self, Print, Read};
 
 // Input past so many bytes counts as missing.
 const MOST: usize = 65536;
@@ -71,61 +73,118 @@ fn limit(dispatched: bool) -> usize
     if dispatched { MOST_DISPATCHED } else { MOST }
 }
 
-fn say(message: &[u8]) -> bool {
-    io::write_all(STDERR_FILENO, message)
+// What standard error does not take can be told nowhere.
+fn say(rt: &HostRuntime, message: &str) {
+    let _ = rt.stderr().print(message);
 }
 
-fn show(text: &[u8]) {
-    if !io::write_all(STDOUT_FILENO, text) {
-        os::fail(b"daylist: standard output");
+// What the system says of an error, without its number.
+fn reason(rt: &HostRuntime, error: io::Error) -> Result<String, AllocError> {
+    let text = error.to_string(rt.alloc())?;
+    let words = match text.split_once(" (os error ") {
+        Some((words, _)) => words,
+        None => text.as_str(),
+    };
+    words.to_string(rt.alloc())
+}
+
+fn fail(rt: &HostRuntime, part: &str, error: io::Error) {
+    let _ = match reason(rt, error) {
+        Ok(words) => eprintln!(rt; "daylist: {part}: {words}"),
+        Err(_) => eprintln!(rt; "daylist: {part}"),
+    };
+}
+
+fn show(rt: &HostRuntime, text: &[u8]) {
+    if let Err(error) = rt.stdout().write_all(text) {
+        fail(rt, "standard output", error);
     }
 }
 
-fn say_more(dispatched: bool) {
+// Reads to the end of the input, or until the room is full or a read fails, and answers how many bytes came.
+fn read_full(rt: &HostRuntime, room: &mut [u8]) -> usize
+    ensures within { result ≤ length room.old }
+    ensures size { length room.new ≡ length room.old }
+{
+    let mut n = 0;
+    for _ in 0..room.len() {
+        if n == room.len() {
+            break;
+        }
+        match rt.stdin().read(&mut room[n..]) {
+            Ok(0) => break,
+            Ok(got) => n += got,
+            Err(_) => break,
+        }
+    }
+    n
+}
+
+fn say_more(rt: &HostRuntime, dispatched: bool) {
     if dispatched {
-        say(b"daylist: the input has more than 262,144 bytes; what is past them is not listed\n");
+        say(
+            rt,
+            "daylist: the input has more than 262,144 bytes; what is past them is not listed\n",
+        );
         return;
     }
-    say(b"daylist: the input has more than 65,536 bytes; what is past them is not listed\n");
+    say(
+        rt,
+        "daylist: the input has more than 65,536 bytes; what is past them is not listed\n",
+    );
 }
 
 // Whether something is left of an input of which `n` bytes were read: what is past the limit, or what could not be read.
-fn tell_what_is_missing(dispatched: bool, n: usize) {
+fn tell_what_is_missing(rt: &HostRuntime, dispatched: bool, n: usize) {
     if limit(dispatched) < n {
-        say_more(dispatched);
+        say_more(rt, dispatched);
         return;
     }
     let mut byte = [0u8; 1];
-    let got = libc::read(STDIN_FILENO, &mut byte);
-    if got < 0 {
-        os::fail(b"daylist: standard input");
-        return;
+    match rt.stdin().read(&mut byte) {
+        Err(error) => fail(rt, "standard input", error),
+        Ok(0) => {}
+        Ok(_) => {
+            if n < limit(dispatched) {
+                say(
+                    rt,
+                    "daylist: standard input: reading ended early; what came later is not listed\n",
+                );
+                return;
+            }
+            say_more(rt, dispatched);
+        }
     }
-    if got == 0 {
-        return;
-    }
-    if n < limit(dispatched) {
-        say(b"daylist: standard input: reading ended early; what came later is not listed\n");
-        return;
-    }
-    say_more(dispatched);
 }
 
 // An argument, whatever it is, asks for the dispatch server's table.
-fn main() {
-    let dispatched = 1 < os::arg_count();
+fn has_argument(rt: &HostRuntime) -> bool {
+    let mut name = [0u8; 16];
+    match rt.arg(1, &mut name) {
+        Ok(_) => true,
+        Err(FillError::TooLong) => true,
+        Err(FillError::NotPresent) => false,
+    }
+}
+
+fn main(rt: HostRuntime) {
+    let dispatched = has_argument(&rt);
     let mut input = room_for_input();
-    let n = io::read_full(STDIN_FILENO, &mut input);
+    let n = read_full(&rt, &mut input);
     let mut text = room_for_text();
     let listed = list(dispatched, &input[..n], &mut text);
-    show(octets::part(&text, 0, listed.length));
+    show(&rt, octets::part(&text, 0, listed.length));
     if !listed.whole {
         say(
-            b"daylist: the listing has more than 1,441,792 bytes; what is past them is not shown\n",
+            &rt,
+            "daylist: the listing has more than 1,441,792 bytes; what is past them is not shown\n",
         );
     }
     if listed.lines == LINES {
-        say(b"daylist: 65,536 records are listed; what is past them is not\n");
+        say(
+            &rt,
+            "daylist: 65,536 records are listed; what is past them is not\n",
+        );
     }
-    tell_what_is_missing(dispatched, n);
+    tell_what_is_missing(&rt, dispatched, n);
 }

@@ -4,14 +4,18 @@
 
 use area::Area;
 use ipv6::PerhapsMid;
-use libc::STDOUT_FILENO;
 use links::{Interface, LinkIndex, PerhapsLink, Settings, StartValues, Table};
 use prefix::Prefix;
 use prefixes::Prefixes;
+use std::io::Print;
 use traffic::{Destination, IndicationHead, RequestHead, Sending};
 
-fn print(text: &[u8]) {
-    io::write_all(STDOUT_FILENO, text);
+fn print(rt: &HostRuntime, text: &[u8]) {
+    let _ = rt.stdout().write_all(text);
+}
+
+fn print_decimal(rt: &HostRuntime, n: u64) {
+    let _ = print!(rt; "{n}");
 }
 
 fn rectangle(latitude: i32, angle: u16) -> Area {
@@ -75,26 +79,26 @@ fn packet() -> [u8; 40] {
     bytes
 }
 
-fn second_stop() {
+fn second_stop(rt: &HostRuntime) {
     let mut bytes = [0u8; 16];
     bytes[0] = 0x20;
     let list = prefixes::single(prefix::of_bytes(8, &bytes));
     let second = settings(rectangle(1_000, 90), plain(), list);
     let reply = value_table::enable(with_one_stop(), second);
-    print(b"second stop link at maximum 2: expected 6 got ");
-    io::print_decimal(STDOUT_FILENO, reply.number as u64);
-    print(b"\n");
+    print(rt, b"second stop link at maximum 2: expected 6 got ");
+    print_decimal(rt, reply.number as u64);
+    print(rt, b"\n");
 }
 
-fn print_link(link: PerhapsLink, number: u8) {
+fn print_link(rt: &HostRuntime, link: PerhapsLink, number: u8) {
     match link {
         PerhapsLink::Link(index) => {
-            print(b"link ");
-            io::print_decimal(STDOUT_FILENO, index.0 as u64);
+            print(rt, b"link ");
+            print_decimal(rt, index.0 as u64);
         }
         PerhapsLink::Nothing => {
-            print(b"reply ");
-            io::print_decimal(STDOUT_FILENO, number as u64);
+            print(rt, b"reply ");
+            print_decimal(rt, number as u64);
         }
     }
 }
@@ -109,7 +113,7 @@ fn from_two(transport: u8, destination: Destination) -> IndicationHead {
     }
 }
 
-fn broadcast_beside_the_stop() {
+fn broadcast_beside_the_stop(rt: &HostRuntime) {
     let p = packet();
     let h = from_two(
         traffic::GEO_BROADCAST,
@@ -117,44 +121,47 @@ fn broadcast_beside_the_stop() {
     );
     let mut buffer = [0u8; 1294];
     let reply = value_traffic::indication(with_one_stop(), h, &p, &mut buffer);
-    print(b"broadcast to a rectangle with the angle one off: expected link 1 got ");
+    print(
+        rt,
+        b"broadcast to a rectangle with the angle one off: expected link 1 got ",
+    );
     let link = reply.link;
-    print_link(link, reply.number);
-    print(b"\n");
+    print_link(rt, link, reply.number);
+    print(rt, b"\n");
 }
 
-fn buffer_of_packet_and_13() {
+fn buffer_of_packet_and_13(rt: &HostRuntime) {
     let p = packet();
     let before = [0x5au8; 53];
     let mut buffer = [0x5au8; 53];
     let h = from_two(traffic::TSB, Destination::Nothing);
     let reply = value_traffic::indication(with_one_stop(), h, &p, &mut buffer);
-    print(b"buffer of packet + 13: expected 13 unchanged got ");
-    io::print_decimal(STDOUT_FILENO, reply.number as u64);
+    print(rt, b"buffer of packet + 13: expected 13 unchanged got ");
+    print_decimal(rt, reply.number as u64);
     if octets::equal(&before, &buffer) {
-        print(b" unchanged\n");
+        print(rt, b" unchanged\n");
     } else {
-        print(b" changed\n");
+        print(rt, b" changed\n");
     }
 }
 
-fn print_place(expected: &[u8], number: u8, place: usize) {
-    print(expected);
-    print(b" got ");
-    io::print_decimal(STDOUT_FILENO, number as u64);
-    print(b" at ");
-    io::print_decimal(STDOUT_FILENO, place as u64);
-    print(b"\n");
+fn print_place(rt: &HostRuntime, expected: &[u8], number: u8, place: usize) {
+    print(rt, expected);
+    print(rt, b" got ");
+    print_decimal(rt, number as u64);
+    print(rt, b" at ");
+    print_decimal(rt, place as u64);
+    print(rt, b"\n");
 }
 
 // A bad packet, as an indication by TSB and as a request on the TVL, with its far end as next hop.
-fn bad_packet(fault: &[u8], expected: &[u8], packet: &[u8]) {
+fn bad_packet(rt: &HostRuntime, fault: &[u8], expected: &[u8], packet: &[u8]) {
     let mut buffer = [0u8; 1294];
     let h = from_two(traffic::TSB, Destination::Nothing);
     let received = value_traffic::indication(with_one_stop(), h, packet, &mut buffer);
-    print(b"indication ");
-    print(fault);
-    print_place(expected, received.number, received.place);
+    print(rt, b"indication ");
+    print(rt, fault);
+    print_place(rt, expected, received.number, received.place);
     let q = RequestHead {
         index: LinkIndex::TVL,
         class: 0,
@@ -162,24 +169,26 @@ fn bad_packet(fault: &[u8], expected: &[u8], packet: &[u8]) {
     };
     let hop = octets::part(packet, 24, 16);
     let sent = value_traffic::request(with_one_stop(), q, hop, packet);
-    print(b"request ");
-    print(fault);
-    print_place(expected, sent.number, sent.place);
+    print(rt, b"request ");
+    print(rt, fault);
+    print_place(rt, expected, sent.number, sent.place);
 }
 
-fn parts_that_are_bad() {
+fn parts_that_are_bad(rt: &HostRuntime) {
     let p = packet();
     bad_packet(
+        rt,
         b"of 39 bytes",
         b": expected 20 at 39",
         octets::part(&p, 0, 39),
     );
     let mut version_five = packet();
     version_five[0] = 0x50;
-    bad_packet(b"of version 5", b": expected 21 at 0", &version_five);
+    bad_packet(rt, b"of version 5", b": expected 21 at 0", &version_five);
     let mut too_large = packet();
     too_large[5] = 1;
     bad_packet(
+        rt,
         b"with the length field one too large",
         b": expected 22 at 4",
         &too_large,
@@ -188,67 +197,74 @@ fn parts_that_are_bad() {
 
 // edge-film-server, and two cases of edge-next-hop, with all that the reply gives: transport, destination, class and length, or the
 // number of a refusal.
-fn print_number(before: &[u8], n: u64) {
-    print(before);
-    io::print_decimal(STDOUT_FILENO, n);
+fn print_number(rt: &HostRuntime, before: &[u8], n: u64) {
+    print(rt, before);
+    print_decimal(rt, n);
 }
 
-fn print_byte(before: &[u8], byte: u8) {
-    print(before);
-    io::print_hex(STDOUT_FILENO, byte as u64, 2);
+fn print_byte(rt: &HostRuntime, before: &[u8], byte: u8) {
+    print(rt, before);
+    let _ = print!(rt; "{byte:02x}");
 }
 
-fn print_mid(mid: u64) {
+fn print_mid(rt: &HostRuntime, mid: u64) {
     let mac = octets::mac_of(mid);
-    print_byte(b"", mac[0]);
-    print_byte(b":", mac[1]);
-    print_byte(b":", mac[2]);
-    print_byte(b":", mac[3]);
-    print_byte(b":", mac[4]);
-    print_byte(b":", mac[5]);
+    print_byte(rt, b"", mac[0]);
+    print_byte(rt, b":", mac[1]);
+    print_byte(rt, b":", mac[2]);
+    print_byte(rt, b":", mac[3]);
+    print_byte(rt, b":", mac[4]);
+    print_byte(rt, b":", mac[5]);
 }
 
 // The centre of every area here is 0, 0: the cast of another number would want a proof that it is not below 0.
-fn print_coordinate(n: i32) {
+fn print_coordinate(rt: &HostRuntime, n: i32) {
     if n == 0 {
-        print(b" 0");
+        print(rt, b" 0");
     } else {
-        print(b" not 0");
+        print(rt, b" not 0");
     }
 }
 
-fn print_area(area: Area) {
-    print_number(b"", area.shape as u64);
-    print_coordinate(area.latitude);
-    print_coordinate(area.longitude);
-    print_number(b" ", area.a as u64);
-    print_number(b" ", area.b as u64);
-    print_number(b" ", area.angle as u64);
+fn print_area(rt: &HostRuntime, area: Area) {
+    print_number(rt, b"", area.shape as u64);
+    print_coordinate(rt, area.latitude);
+    print_coordinate(rt, area.longitude);
+    print_number(rt, b" ", area.a as u64);
+    print_number(rt, b" ", area.b as u64);
+    print_number(rt, b" ", area.angle as u64);
 }
 
-fn print_destination(destination: Destination) {
+fn print_destination(rt: &HostRuntime, destination: Destination) {
     match destination {
-        Destination::Mid(mid) => print_mid(mid),
-        Destination::Within(area) => print_area(area),
-        Destination::Nothing => print(b"nothing"),
+        Destination::Mid(mid) => print_mid(rt, mid),
+        Destination::Within(area) => print_area(rt, area),
+        Destination::Nothing => print(rt, b"nothing"),
     }
 }
 
-fn print_sending(sent: Sending) {
+fn print_sending(rt: &HostRuntime, sent: Sending) {
     if sent.number != 0 {
-        print_number(b"", sent.number as u64);
+        print_number(rt, b"", sent.number as u64);
         return;
     }
-    print_number(b"", sent.transport as u64);
-    print(b" to ");
+    print_number(rt, b"", sent.transport as u64);
+    print(rt, b" to ");
     let destination = sent.destination;
-    print_destination(destination);
-    print_number(b" class ", sent.class as u64);
-    print_number(b" length ", sent.length as u64);
+    print_destination(rt, destination);
+    print_number(rt, b" class ", sent.class as u64);
+    print_number(rt, b" length ", sent.length as u64);
 }
 
 // A request on the only stop link, of kind 1 and this flag.
-fn show(expected: &[u8], flag: u8, neighbour: PerhapsMid, hop: &[u8], packet: &[u8]) {
+fn show(
+    rt: &HostRuntime,
+    expected: &[u8],
+    flag: u8,
+    neighbour: PerhapsMid,
+    hop: &[u8],
+    packet: &[u8],
+) {
     let table = with_stop(Interface {
         kind: links::ETHERNET,
         flag: flag,
@@ -259,10 +275,10 @@ fn show(expected: &[u8], flag: u8, neighbour: PerhapsMid, hop: &[u8], packet: &[
         neighbour: neighbour,
     };
     let sent = value_traffic::request(table, h, hop, packet);
-    print(expected);
-    print(b" got ");
-    print_sending(sent);
-    print(b"\n");
+    print(rt, expected);
+    print(rt, b" got ");
+    print_sending(rt, sent);
+    print(rt, b"\n");
 }
 
 // fe80::ff:fe00:1, which is 02:00:00:00:00:01's.
@@ -292,9 +308,10 @@ fn to_film_server() -> [u8; 40] {
     bytes
 }
 
-fn show_next_hops() {
+fn show_next_hops(rt: &HostRuntime) {
     let film = to_film_server();
     show(
+        rt,
         b"request to a film server behind the mast: expected 1 to 02:00:00:00:00:01 class 7 length 40",
         1,
         PerhapsMid::Nothing,
@@ -302,6 +319,7 @@ fn show_next_hops() {
         &film,
     );
     show(
+        rt,
         b"request to a film server as its own next hop: expected 12",
         1,
         PerhapsMid::Nothing,
@@ -309,6 +327,7 @@ fn show_next_hops() {
         &film,
     );
     show(
+        rt,
         b"request by a mast without FF FE, MID given: expected 1 to 02:00:00:00:00:02 class 7 length 40",
         0,
         PerhapsMid::Mid(0x0200_0000_0002),
@@ -316,6 +335,7 @@ fn show_next_hops() {
         &film,
     );
     show(
+        rt,
         b"multicast request with next hop ::: expected 3 to 1 0 0 500 300 90 class 7 length 40",
         1,
         PerhapsMid::Nothing,
@@ -361,68 +381,75 @@ fn between(source: u8, destination: u8) -> [u8; 40] {
     bytes
 }
 
-fn unicast_on_the_mast(expected: &[u8], packet: &[u8]) {
+fn unicast_on_the_mast(rt: &HostRuntime, expected: &[u8], packet: &[u8]) {
     let h = from_two(traffic::GEO_UNICAST, Destination::Mid(1));
     let mut buffer = [0u8; 1294];
     let reply = value_traffic::indication(with_two_operators(), h, packet, &mut buffer);
-    print(expected);
-    print(b" got ");
+    print(rt, expected);
+    print(rt, b" got ");
     let link = reply.link;
-    print_link(link, reply.number);
-    print(b"\n");
+    print_link(rt, link, reply.number);
+    print(rt, b"\n");
 }
 
-fn second_mast(expected: &[u8], list: Prefixes) {
+fn second_mast(rt: &HostRuntime, expected: &[u8], list: Prefixes) {
     let second = settings(rectangle(1_000, 90), plain(), list);
     let reply = value_table::enable(with_two_operators(), second);
-    print(expected);
-    print(b" got ");
+    print(rt, expected);
+    print(rt, b" got ");
     if reply.number != 0 {
-        print_number(b"", reply.number as u64);
+        print_number(rt, b"", reply.number as u64);
     } else {
         let link = reply.link;
-        print_link(link, reply.number);
+        print_link(rt, link, reply.number);
     }
-    print(b"\n");
+    print(rt, b"\n");
 }
 
-fn operators_on_a_mast() {
+fn operators_on_a_mast(rt: &HostRuntime) {
     unicast_on_the_mast(
+        rt,
         b"indication to the first operator: expected link 2",
         &between(0, 0x0a),
     );
     unicast_on_the_mast(
+        rt,
         b"indication to the second operator: expected link 2",
         &between(0, 0x0b),
     );
     unicast_on_the_mast(
+        rt,
         b"indication from the second operator: expected link 2",
         &between(0x0b, 0),
     );
     let own = operator(0x0c);
     second_mast(
+        rt,
         b"second mast with a prefix inside the second operator's: expected 5",
         two_prefixes(own, inside_operator(0x0b)),
     );
     second_mast(
+        rt,
         b"second mast with its own prefix twice: expected 5",
         two_prefixes(own, own),
     );
     second_mast(
+        rt,
         b"second mast with five prefixes: expected 29",
         prefixes::of_four(5, own, operator(0x0d), operator(0x0e), operator(0x0f)),
     );
     second_mast(
+        rt,
         b"second mast without a prefix: expected link 3",
         prefixes::none(),
     );
 }
 
-fn main() {
-    operators_on_a_mast();
-    second_stop();
-    broadcast_beside_the_stop();
-    buffer_of_packet_and_13();
-    parts_that_are_bad();
-    show_next_hops();
+fn main(rt: HostRuntime) {
+    operators_on_a_mast(&rt);
+    second_stop(&rt);
+    broadcast_beside_the_stop(&rt);
+    buffer_of_packet_and_13(&rt);
+    parts_that_are_bad(&rt);
+    show_next_hops(&rt);
 }

@@ -13,7 +13,7 @@ normal_forms = record {
   joined = to_normal;
   good = λ x p. (chain_good (to_normal x p)).1;
   again = normal-again;
-  none_before_lem = none_before_lem;
+  none_before = none_before_lem;
   first = is_first;
 }
 

@@ -9,7 +9,7 @@ pub returns-then-address-ne16 : goal.returns-then-address-ne16
 returns-then-address-ne16 c = sym (no_address c.args.address.now c.if-address-ne16.true)
 
 pub returns-then-not-address : goal.returns-then-not-address
-returns-then-not-address c = let a = c.args.address.now in sym (without_ff_fe a (not-true (from a) c.if-not-address.true))
+returns-then-not-address c = let a = c.args.address.now in sym (without_ff_fe a c.if-not-address.true)
 
 pub returns-then-address : goal.returns-then-address
 returns-then-address c = sym (many_without_mid c.args.address.now c.if-address.true)
@@ -18,4 +18,4 @@ pub returns : goal.returns
 returns c =
     let a = c.args.address.now in
     let long = c.if-address-ne16.false in
-    rw (with_ff_fe a long (not-false (from a) c.if-not-address.false) c.if-address.false, mid-bytes a long, c.mid.ensures, c.flip.ensures)
+    rw (with_ff_fe a long c.if-not-address.false c.if-address.false, mid-bytes a long, c.mid.ensures, c.flip.ensures)

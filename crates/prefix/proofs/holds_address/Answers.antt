@@ -12,7 +12,7 @@ returns-then-address-eq16 c =
     let start = c in
     let args = start.args in
     let long : length args.address.now ≡ 16 = omega arith in
-    rw (c.numbers_overlap.ensures, c.word-then-address-eq16.ensures, c.word.ensures, holds_as_overlap args.p args.address.now (λ i. (start.shared-slice-known.given i).fits), eq-eqb _ _ long)
+    rw (c.numbers_overlap.ensures, c.word-then-address-eq16.ensures, c.word.ensures, holds_as_overlap args.p args.address.now (λ i. (c.type_inv.address i).fits), eq-eqb _ _ long)
 
 pub returns-else-address-eq16 : goal.returns-else-address-eq16
 unfolding holds

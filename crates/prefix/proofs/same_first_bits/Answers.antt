@@ -1,5 +1,5 @@
 -- `prefix::same_first_bits`: the first word by its first bits, or whole and then the second by its own.
-use Prim.Native.Nat.{◌-◌, ◌/◌, ◌^◌, ◌<◌}
+use Prim.Native.Nat.{ℕ, ◌-◌, ◌/◌, ◌^◌, ◌<◌}
 use native.Mathlib.Nat.{div-one, div-eq_of_lt}
 use native.Mathlib.Omega.{arith}
 use mathlib.Core.Path.{◌≡◌}
@@ -23,26 +23,25 @@ returns-then-n-le64 c =
     rw (same_words a.n a.high a.low a.high2 a.low2 (search rules) low (search rules) low2, none, div-eq_of_lt low, div-eq_of_lt low2, and-true)
 
 -- where the first word is asked for whole
-past : (c : goal.Else-n-le64) → (let a = c.args in
-    same (take a.n (bits (word_bytes a.high a.low))) (take a.n (bits (word_bytes a.high2 a.low2)))
-    ≡ (eqb a.high a.high2 && eqb (a.low / 2 ^ (128 - a.n)) (a.low2 / 2 ^ (128 - a.n))))
-past c =
-    let a = c.args in
-    let all : 64 - a.n ≡ 0 = omega arith in
-    let rest : 64 - (a.n - 64) ≡ 128 - a.n = omega arith in
-    rw (same_words a.n a.high a.low a.high2 a.low2 (search rules) (search rules) (search rules) (search rules), all, rest, div-one a.high, div-one a.high2)
+past : (n high low high2 low2 : ℕ) → 64 < n → high < 2 ^ 64 → low < 2 ^ 64 → high2 < 2 ^ 64 → low2 < 2 ^ 64
+    → same (take n (bits (word_bytes high low))) (take n (bits (word_bytes high2 low2)))
+    ≡ (eqb high high2 && eqb (low / 2 ^ (128 - n)) (low2 / 2 ^ (128 - n)))
+past n high low high2 low2 h f g f2 g2 =
+    let all : 64 - n ≡ 0 = omega arith in
+    let rest : 64 - (n - 64) ≡ 128 - n = omega arith in
+    rw (same_words n high low high2 low2 f g f2 g2, all, rest, div-one high, div-one high2)
 
 pub returns-then-high-high2 : goal.returns-then-high-high2
-returns-then-high-high2 c = rw (past c, eq-eqb _ _ c.if-high-high2.true)
+returns-then-high-high2 c = rw (past c.args.n c.args.high c.args.low c.args.high2 c.args.low2 (omega arith) (search rules) (search rules) (search rules) (search rules), eq-eqb _ _ c.if-high-high2.true)
 
 pub returns-else-high-high2 : goal.returns-else-high-high2
-returns-else-high-high2 c = rw (past c, ne_eqb _ _ c.if-high-high2.false)
+returns-else-high-high2 c = rw (past c.args.n c.args.high c.args.low c.args.high2 c.args.low2 (omega arith) (search rules) (search rules) (search rules) (search rules), ne_eqb _ _ c.if-high-high2.false)
 
 pub returns-then-high-high2-2 : goal.returns-then-high-high2-2
 returns-then-high-high2-2 c =
     let a = c.args in
     let all : 128 - a.n ≡ 0 = omega arith in
-    rw (past c, eq-eqb _ _ c.if-high-high2-2.true, all, div-one a.low, div-one a.low2)
+    rw (past c.args.n c.args.high c.args.low c.args.high2 c.args.low2 (omega arith) (search rules) (search rules) (search rules) (search rules), eq-eqb _ _ c.if-high-high2-2.true, all, div-one a.low, div-one a.low2)
 
 pub returns-else-high-high2-2 : goal.returns-else-high-high2-2
-returns-else-high-high2-2 c = rw (past c, ne_eqb _ _ c.if-high-high2-2.false)
+returns-else-high-high2-2 c = rw (past c.args.n c.args.high c.args.low c.args.high2 c.args.low2 (omega arith) (search rules) (search rules) (search rules) (search rules), ne_eqb _ _ c.if-high-high2-2.false)

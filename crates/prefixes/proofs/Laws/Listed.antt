@@ -55,10 +55,10 @@ unfolding overlapping listed
 meets_at_lem r s = any_blanked (place s 0) (place s 1) (place s 2) (place s 3) (meets r) (meets-none r) (count s.count)
 
 -- by the places, one after the other
-abbrev pub meets_at_lem : Prefixes → Prefix → ℕ → Bool
-meets_at_lem s p k = ltb k s.count && overlap (place s k) p
+abbrev pub place_meets : Prefixes → Prefix → ℕ → Bool
+place_meets s p k = ltb k s.count && overlap (place s k) p
 
-pub meets-places : (s : Prefixes) (p : Prefix) → meets s p ≡ (meets_at_lem s p 0 || (meets_at_lem s p 1 || (meets_at_lem s p 2 || meets_at_lem s p 3)))
+pub meets-places : (s : Prefixes) (p : Prefix) → meets s p ≡ (place_meets s p 0 || (place_meets s p 1 || (place_meets s p 2 || place_meets s p 3)))
 unfolding meets listed
 meets-places s p = any-first (place s 0) (place s 1) (place s 2) (place s 3) (λ q. overlap q p) (count s.count)
 

@@ -11,13 +11,10 @@ returns-then-s-k c =
     let a = c.args in
     rw (c.none.ensures, le-ltb a.k a.s.count (omega arith))
 
-four : (c : goal.Start) → (length c.args.s.lens ≡ 4) × (length c.args.s.highs ≡ 4) × (length c.args.s.lows ≡ 4)
-four c = search rules
-
 pub returns-then-k-ge-MOST : goal.returns-then-k-ge-MOST
 returns-then-k-ge-MOST c =
     let a = c.args in
-    let long = four c in
+    let long : (length a.s.lens ≡ 4) × (length a.s.highs ≡ 4) × (length a.s.lows ≡ 4) = search rules in
     rw (c.none-then-k-ge-MOST.ensures, lt-ltb a.k a.s.count (omega arith), get_or-eq_default a.s.lens 0 {n = a.k} (omega arith), get_or-eq_default a.s.highs 0 {n = a.k} (omega arith), get_or-eq_default a.s.lows 0 {n = a.k} (omega arith))
 
 pub returns : goal.returns

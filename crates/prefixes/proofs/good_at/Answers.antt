@@ -7,7 +7,7 @@ use Rattle.prefixes.proofs.good_at.Goals as goal
 pub returns-then-k-s : goal.returns-then-k-s
 returns-then-k-s c =
     let a = c.args in
-    rw (c.good2.ensures, c.place-p.ensures, lt-ltb a.k a.s.count (omega arith))
+    rw (c.good.ensures, c.place-p.ensures, lt-ltb a.k a.s.count (omega arith))
 
 pub returns : goal.returns
 returns c =

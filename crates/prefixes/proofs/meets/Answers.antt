@@ -8,14 +8,14 @@ use Rattle.prefix.specs.declared.Prefix.{Prefix}
 use Rattle.prefixes.specs.declared.Prefixes.{Prefixes}
 use Rattle.prefixes.specs.Prefixes.{meets}
 use Rattle.prefixes.proofs.Laws.Count.{one-of_four}
-use Rattle.prefixes.proofs.Laws.Listed.{meets_at_lem, meets-places}
+use Rattle.prefixes.proofs.Laws.Listed.{place_meets, meets-places}
 use Rattle.prefixes.proofs.meets.Goals as goal
 
 module _ (s : Prefixes) (p : Prefix) where
-  found : (k : ℕ) → k < 4 → meets_at_lem s p k ≡ true → true ≡ meets s p
-  found k h e = sym (meets-places s p ∙ one-of_four (meets_at_lem s p) k h e)
+  found : (k : ℕ) → k < 4 → place_meets s p k ≡ true → true ≡ meets s p
+  found k h e = sym (meets-places s p ∙ one-of_four (place_meets s p) k h e)
 
-  last : meets_at_lem s p 0 ≡ false → meets_at_lem s p 1 ≡ false → meets_at_lem s p 2 ≡ false → meets_at_lem s p 3 ≡ meets s p
+  last : place_meets s p 0 ≡ false → place_meets s p 1 ≡ false → place_meets s p 2 ≡ false → place_meets s p 3 ≡ meets s p
   last a b c = sym (meets-places s p ∙ rw (a, b, c))
 
 pub returns-then-meets_at : goal.returns-then-meets_at

@@ -8,6 +8,5 @@ pub returns : goal.returns
 unfolding overlap_within listed
 returns c =
     let s = c.args.s in
-    let ats = c in
-    rw (c.overlaps-6.ensures, c.overlaps-5.ensures, c.overlaps-4.ensures, c.overlaps-3.ensures, c.overlaps-2.ensures, c.overlaps.ensures, ats.at4.ensures, ats.at3.ensures, ats.at2.ensures, ats.at.ensures)
+    rw (c.overlaps-6.ensures, c.overlaps-5.ensures, c.overlaps-4.ensures, c.overlaps-3.ensures, c.overlaps-2.ensures, c.overlaps.ensures, c.at-d.ensures, c.at-c.ensures, c.at-b.ensures, c.at-a.ensures)
     (sym (within_first (place s 0) (place s 1) (place s 2) (place s 3) (count s.count)))

@@ -1,9 +1,12 @@
 -- `queue_calls::add` meets its contract.
-use Prim.Native.Nat.{◌+◌, ◌≤◌}
+use Prim.Native.Nat.{ℕ, ◌+◌, ◌≤◌}
 use native.Mathlib.Omega.{arith}
 use mathlib.Core.Path.{◌≡◌, ◌∙◌, ap}
+use mathlib.Core.List.{List}
 use lib.ListN.{length}
 use borrow.Author.Rules.{rules}
+use Rattle.numbers.specs.declared.NumberRun.{NumberRun}
+use Rattle.numbers.specs.Numbers.{written}
 use Rattle.queues.specs.Packets.{packed}
 use Rattle.queues.specs.Calls.{Queue}
 use Rattle.queues.proofs.Laws.Packets.{length-packed}
@@ -27,30 +30,28 @@ lay-requires c =
     let fits = added_fits args.held args.queue.now args.packet.now c.add_refusal-number.result c.add_refusal-number.ensures c.if-number-ne-DONE.false in
     (c.write-run.ensures, omega (arith, fits.0, fits.1))
 
--- what is held with the packet, in the numbers of the code, and that it fits
-module _ (c : goal.After-slice_known-2-1) where
-  needed : c.args.held + c.write-run.result.length + length c.args.packet.now
-      ≡ c.args.held + length (packed c.args.packet.now)
-  needed =
-      let args = c.args in
-      let write = c.write-run in
-      omega (arith, digits_count write.result (length args.packet.now) write.ensures, length-packed args.packet.now)
-
-  fits : c.args.held + length (packed c.args.packet.now) ≤ 4096
-  fits =
-      let args = c.args in
-      let judged = c.add_refusal-number in
-      (added_fits args.held args.queue.now args.packet.now judged.result judged.ensures c.if-number-ne-DONE.false).0
+-- what is held with the packet, in the numbers of the code
+needed : (held : ℕ) (run : NumberRun) (p : List ℕ) → run ≡ written (length p) → held + run.length + length p ≡ held + length (packed p)
+needed held run p e = omega (arith, digits_count run (length p) e, length-packed p)
 
 pub overflow_add-result : goal.overflow_add-result
-overflow_add-result c = omega (arith, needed c, fits c)
+overflow_add-result c =
+    let args = c.args in
+    let judged = c.add_refusal-number in
+    let fits = added_fits args.held args.queue.now args.packet.now judged.result judged.ensures c.if-number-ne-DONE.false in
+    omega (arith, needed args.held c.write-run.result args.packet.now c.write-run.ensures, fits.0)
 
 pub overflow_add-result-2 : goal.overflow_add-result-2
-overflow_add-result-2 c = omega (arith, needed c, fits c)
+overflow_add-result-2 c =
+    let args = c.args in
+    let judged = c.add_refusal-number in
+    let fits = added_fits args.held args.queue.now args.packet.now judged.result judged.ensures c.if-number-ne-DONE.false in
+    omega (arith, needed args.held c.write-run.result args.packet.now c.write-run.ensures, fits.0)
 
 pub returns : goal.returns
 returns c =
     let args = c.args in
     let judged = c.add_refusal-number in
     let is = is_added args.held args.queue.now args.packet.now judged.result judged.ensures c.if-number-ne-DONE.false in
-    ((λ i. record { number = 0; held = needed c i }) ∙ ap added_of is, c.lay.ensures ∙ ap (λ (q : Queue). q.bytes) is)
+    let now = needed args.held c.write-run.result args.packet.now c.write-run.ensures in
+    ((λ i. record { number = 0; held = now i }) ∙ ap added_of is, c.lay.ensures ∙ ap (λ (q : Queue). q.bytes) is)

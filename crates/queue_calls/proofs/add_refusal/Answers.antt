@@ -1,13 +1,14 @@
 -- `queue_calls::add_refusal` meets its contract.
-use Prim.Native.Nat.{◌+◌, ◌≤◌}
+use Prim.Native.Nat.{ℕ, ◌+◌, ◌≤◌}
 use native.Mathlib.Omega.{arith}
 use mathlib.Core.Path.{◌≡◌, sym, ◌∙◌}
 use mathlib.Core.Bool.{Bool, true, false}
-use mathlib.Core.List.{[]}
+use mathlib.Core.List.{List, []}
 use lib.Dec.{ltb}
 use lib.ListN.{length}
 use borrow.Author.Tests.{not-true, not-false, lt-ltb, le-ltb, ltb-false}
 use Rattle.replies.specs.Rules.{◌if◌, ◌then◌, refusal}
+use Rattle.numbers.specs.Numbers.{number_bytes}
 use Rattle.queues.specs.Packets.{packed, good}
 use Rattle.queues.specs.Calls.{add_rules}
 use Rattle.queues.proofs.Laws.Packets.{length-packed}
@@ -18,45 +19,43 @@ use Rattle.queue_calls.proofs.add_refusal.Goals as goal
 pub returns-then-bad : goal.returns-then-bad
 returns-then-bad c =
     let args = c.args in
-    bad_queue args.held args.queue.now args.packet.now (sym c.is_good-bad.ensures ∙ not-true c.is_good-bad.result c.if-bad.true)
-
--- the queue is good
-is : (c : goal.Else-bad) → good c.args.held c.args.queue.now ≡ true
-is c = sym c.is_good-bad.ensures ∙ not-false c.is_good-bad.result c.if-bad.false
+    bad_queue args.held args.queue.now args.packet.now (sym c.is_good-bad.ensures ∙ c.if-bad.true)
 
 pub returns-then-long : goal.returns-then-long
 returns-then-long c =
     let args = c.args in
-    long-packet args.held args.queue.now args.packet.now (is c) c.if-long.true
+    long-packet args.held args.queue.now args.packet.now (sym c.is_good-bad.ensures ∙ c.if-bad.false) (lt-ltb 1280 (length args.packet.now) c.if-long.true)
 
-module _ (c : goal.Else-long) where
-  few : c.args.held ≤ 4096
-  few = (good-fits _ _ (is c)).few
+-- of a good queue, and a packet that is not too long
+module _ (held : ℕ) (queue p : List ℕ) (digits : ℕ) (is : good held queue ≡ true) (short : length p ≤ 1280) (count : digits ≡ length (number_bytes (length p))) where
+  few : held + digits ≤ 4098
+  few =
+      let held_few : held ≤ 4096 = (good-fits held queue is).few in
+      omega (arith, few-digits p short)
 
-  small : c.args.digits ≤ 2
-  small =
-      let args = c.args in
-      let short : length args.packet.now ≤ 1280 = ltb-false 1280 (length args.packet.now) c.if-long.false in
-      omega (arith, few-digits args.packet.now short, c.requires)
-
-  needed : c.args.held + length (packed c.args.packet.now)
-      ≡ c.args.held + c.args.digits + length c.args.packet.now
-  needed = omega (arith, length-packed c.args.packet.now, c.requires)
+  needed : held + length (packed p) ≡ held + digits + length p
+  needed = omega (arith, length-packed p)
 
 pub overflow_add-held : goal.overflow_add-held
-overflow_add-held c = omega (arith, few c, small c)
+overflow_add-held c =
+    let args = c.args in
+    omega (arith, few args.held args.queue.now args.packet.now args.digits (sym c.is_good-bad.ensures ∙ c.if-bad.false) c.if-long.false c.requires)
 
 pub overflow_add-held-2 : goal.overflow_add-held-2
 overflow_add-held-2 c =
-    let p = c.args.packet.now in
-    omega (arith, few c, small c, ltb-false 1280 (length p) c.if-long.false)
+    let args = c.args in
+    omega (arith, few args.held args.queue.now args.packet.now args.digits (sym c.is_good-bad.ensures ∙ c.if-bad.false) c.if-long.false c.requires, c.if-long.false)
 
 pub returns-then-held-digits-gt-SIZE : goal.returns-then-held-digits-gt-SIZE
 returns-then-held-digits-gt-SIZE c =
     let args = c.args in
-    by_room args.held args.queue.now args.packet.now true (is c) c.if-long.false (lt-ltb 4096 (args.held + length (packed args.packet.now)) (omega (arith, needed c)))
+    let is = sym c.is_good-bad.ensures ∙ c.if-bad.false in
+    let need = needed args.held args.queue.now args.packet.now args.digits is c.if-long.false c.requires in
+    by_room args.held args.queue.now args.packet.now true is (le-ltb 1280 (length args.packet.now) c.if-long.false) (lt-ltb 4096 (args.held + length (packed args.packet.now)) (omega (arith, need)))
 
 pub returns : goal.returns
 returns c =
     let args = c.args in
-    by_room args.held args.queue.now args.packet.now false (is c) c.if-long.false (le-ltb 4096 (args.held + length (packed args.packet.now)) (omega (arith, needed c)))
+    let is = sym c.is_good-bad.ensures ∙ c.if-bad.false in
+    let need = needed args.held args.queue.now args.packet.now args.digits is c.if-long.false c.requires in
+    by_room args.held args.queue.now args.packet.now false is (le-ltb 1280 (length args.packet.now) c.if-long.false) (le-ltb 4096 (args.held + length (packed args.packet.now)) (omega (arith, need)))

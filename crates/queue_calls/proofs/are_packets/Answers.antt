@@ -14,26 +14,25 @@ pub returns-in_default : goal.returns-in_default
 returns-in_default c =
     let held = c.args.held.now in
     let at = c.loop-at.at in
-    not_found held at (omega arith) (sym c.Front-at.ensures ∙ c.enum_told-1.given.1) ∙ sym c.loop-at.invariant.1
-
--- the packet that a turn goes past
-past : (c : goal.In-Good invariant-loop decreases-loop) → Found c.args.held.now c.loop-at.at c.length-1.given.0.0 c.length-1.given.0.1.0
-past c =
-    found c.args.held.now
-    c.loop-at.at
-    c.length-1.given.0.0
-    c.length-1.given.0.1.0
-    c.loop-at.invariant.0
-    (sym c.Front-at.ensures ∙ c.length-1.given.1)
+    not_found held at (omega arith) (sym c.front_at.ensures ∙ c.in_default.is) ∙ sym c.loop-at.invariant.1
 
 pub overflow_add-at : goal.overflow_add-at
-overflow_add-at c = omega (arith, (past c).within, c.well_formed.0)
+overflow_add-at c =
+    -- the packet that a turn goes past
+    let past = found c.args.held.now c.loop-at.at c.in-Good.length c.in-Good.start c.loop-at.invariant.0 (sym c.front_at.ensures ∙ c.in-Good.is) in
+    omega (arith, past.within)
 
 pub loop-at-smaller : goal.loop-at-smaller
-loop-at-smaller c = omega (arith, (past c).on, (past c).within)
+loop-at-smaller c =
+    -- the packet that a turn goes past
+    let past = found c.args.held.now c.loop-at.at c.in-Good.length c.in-Good.start c.loop-at.invariant.0 (sym c.front_at.ensures ∙ c.in-Good.is) in
+    omega (arith, past.on, past.within)
 
 pub loop-at-preserved : goal.loop-at-preserved
-loop-at-preserved c = ((past c).within, c.loop-at.invariant.1 ∙ (past c).rest)
+loop-at-preserved c =
+    -- the packet that a turn goes past
+    let past = found c.args.held.now c.loop-at.at c.in-Good.length c.in-Good.start c.loop-at.invariant.0 (sym c.front_at.ensures ∙ c.in-Good.is) in
+    (past.within, c.loop-at.invariant.1 ∙ past.rest)
 
 pub returns : goal.returns
 returns c =

@@ -10,24 +10,24 @@ use Rattle.queue_calls.proofs.front_at.Goals as goal
 pub returns-in_default : goal.returns-in_default
 returns-in_default c =
     let args = c.args in
-    broken args.held.now args.at (sym c.read.ensures ∙ c.enum_told-1.given.1)
+    broken args.held.now args.at (sym c.read.ensures ∙ c.in_default.is)
 
 pub returns-then-length-gt-LONGEST : goal.returns-then-length-gt-LONGEST
 returns-then-length-gt-LONGEST c =
     let args = c.args in
-    too_long args.held.now args.at _ _ (sym c.read.ensures ∙ c.length-1.given.1) (omega arith)
+    too_long args.held.now args.at _ _ (sym c.read.ensures ∙ c.in-Good.is) (omega arith)
 
 pub overflow_sub-held : goal.overflow_sub-held
 overflow_sub-held c =
     let args = c.args in
-    (read_there args.held.now args.at _ _ (sym c.read.ensures ∙ c.length-1.given.1)).within
+    (read_there args.held.now args.at _ _ (sym c.read.ensures ∙ c.in-Good.is)).within
 
 pub returns-then-held-start : goal.returns-then-held-start
 returns-then-held-start c =
     let args = c.args in
-    cut args.held.now args.at _ _ (sym c.read.ensures ∙ c.length-1.given.1) (omega arith)
+    cut args.held.now args.at _ _ (sym c.read.ensures ∙ c.in-Good.is) (omega arith)
 
 pub returns : goal.returns
 returns c =
     let args = c.args in
-    there args.held.now args.at _ _ (sym c.read.ensures ∙ c.length-1.given.1) (omega arith) (omega arith)
+    there args.held.now args.at _ _ (sym c.read.ensures ∙ c.in-Good.is) (omega arith) (omega arith)

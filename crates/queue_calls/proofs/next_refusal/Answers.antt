@@ -7,25 +7,20 @@ use Rattle.queue_calls.proofs.Laws.Refused.{bad_queues, by_packets}
 use Rattle.queue_calls.proofs.next_refusal.Goals as goal
 
 -- both queues are judged, each with the bytes held in it
-judged : (c : goal.After-is_good-2) → (good c.args.state.control c.args.control.now && good c.args.state.film c.args.film.now)
-    ≡ (c.is_good.result && c.is_good-2.result)
-judged c = ap₂ ◌&&◌ (sym c.is_good.ensures) (sym c.is_good-2.ensures)
+judged : (a b x y v : Bool) → x ≡ a → y ≡ b → (x && y) ≡ v → (a && b) ≡ v
+judged a b x y v e f g = ap₂ ◌&&◌ (sym e) (sym f) ∙ g
 
 pub returns-then-not-good : goal.returns-then-not-good
 returns-then-not-good c =
     let args = c.args in
-    bad_queues args.state args.control.now args.film.now (judged c ∙ not-true (c.is_good.result && c.is_good-2.result) c.if-not-good.true)
+    bad_queues args.state args.control.now args.film.now (judged _ _ _ _ false c.is_good.ensures c.is_good-2.ensures c.if-not-good.true)
 
 pub returns-then-empty : goal.returns-then-empty
 returns-then-empty c =
     let args = c.args in
-    by_packets args.state args.control.now args.film.now true
-    (judged c ∙ not-false (c.is_good.result && c.is_good-2.result) c.if-not-good.false)
-    c.if-empty.true
+    by_packets args.state args.control.now args.film.now true (judged _ _ _ _ true c.is_good.ensures c.is_good-2.ensures c.if-not-good.false) c.if-empty.true
 
 pub returns : goal.returns
 returns c =
     let args = c.args in
-    by_packets args.state args.control.now args.film.now false
-    (judged c ∙ not-false (c.is_good.result && c.is_good-2.result) c.if-not-good.false)
-    c.if-empty.false
+    by_packets args.state args.control.now args.film.now false (judged _ _ _ _ true c.is_good.ensures c.is_good-2.ensures c.if-not-good.false) c.if-empty.false

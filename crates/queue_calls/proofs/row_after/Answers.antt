@@ -25,11 +25,11 @@ pub returns-then-film_goes-state : goal.returns-then-film_goes-state
 returns-then-film_goes-state c = sym (rw (← c.film_goes.ensures, c.if-film_goes-state.true))
 
 -- the test of the code is that of the definition
-goes_on : (c : goal.Else-film_goes-state) → (film_goes c.args.state || eqb c.args.state.film 0) ≡ false
-goes_on c = rw (← c.film_goes.ensures) c.if-film_goes-state.false
+goes_on : (s : State) (b : Bool) → b ≡ film_goes s → (b || eqb s.film 0) ≡ false → (film_goes s || eqb s.film 0) ≡ false
+goes_on s b e h = rw (← e) h
 
 pub overflow_add-result : goal.overflow_add-result
-overflow_add-result c = omega (arith, short c.args.state (goes_on c))
+overflow_add-result c = omega (arith, short c.args.state (goes_on c.args.state _ c.film_goes.ensures c.if-film_goes-state.false))
 
 pub returns : goal.returns
-returns c = sym (rw (goes_on c))
+returns c = sym (rw (goes_on c.args.state _ c.film_goes.ensures c.if-film_goes-state.false))

@@ -18,9 +18,9 @@ at_front Broken = refl
 pub returns-in-Good : goal.returns-in-Good
 returns-in-Good c =
     let args = c.args in
-    ap (shown_at args.film) (sym c.length-1.given.1 ∙ c.Front-at.ensures ∙ at_front (front args.held.now))
+    ap (shown_at args.film) (sym c.in-Good.is ∙ c.front_at.ensures ∙ at_front (front args.held.now))
 
 pub returns-in-Broken : goal.returns-in-Broken
 returns-in-Broken c =
     let args = c.args in
-    ap (shown_at args.film) (sym c.enum_told-1.given.1 ∙ c.Front-at.ensures ∙ at_front (front args.held.now))
+    ap (shown_at args.film) (sym c.in-Broken.is ∙ c.front_at.ensures ∙ at_front (front args.held.now))

@@ -15,28 +15,18 @@ returns-then-shown-ne-DONE c =
     let is = not_taken args.state args.control.now args.film.now c.show-shown.result c.show-shown.ensures c.if-shown-ne-DONE.true in
     (ap (λ (q : Queues). q.reply) is, ap (λ (q : Queues). q.control) is, ap (λ (q : Queues). q.film) is)
 
--- the packet that goes lies in its queue, whichever that is
-module _ (c : goal.After-struct_known-2-1) (film : Bool) where
-  lies-there : c.show-shown.result.film ≡ film
-      → InQueue c.show-shown.result
-      (cond film c.args.state.film c.args.state.control)
-      (cond film c.args.film.now c.args.control.now)
-  lies-there f =
-      let args = c.args in
-      in_queue args.state args.control.now args.film.now c.show-shown.result film c.show-shown.ensures c.if-shown-ne-DONE.false f
-
 pub overflow_add-n : goal.overflow_add-n
 overflow_add-n c =
-    let there = lies-there c c.show-shown.result.film refl in
+    let there = in_queue c.args.state c.args.control.now c.args.film.now c.show-shown.result c.show-shown.result.film c.show-shown.ensures c.if-shown-ne-DONE.false refl in
     omega (arith, there.held_within, there.few)
 
 pub move_down-requires : goal.move_down-requires
 move_down-requires c =
-    let there = lies-there c true c.if-shown.true in
+    let there = in_queue c.args.state c.args.control.now c.args.film.now c.show-shown.result true c.show-shown.ensures c.if-shown-ne-DONE.false c.if-shown.true in
     (there.held_within, there.few, there.size)
 
 pub overflow_sub-result : goal.overflow_sub-result
-overflow_sub-result c = (lies-there c true c.if-shown.true).held_within
+overflow_sub-result c = (in_queue c.args.state c.args.control.now c.args.film.now c.show-shown.result true c.show-shown.ensures c.if-shown-ne-DONE.false c.if-shown.true).held_within
 
 pub returns-then-shown : goal.returns-then-shown
 returns-then-shown c =
@@ -51,11 +41,11 @@ returns-then-shown c =
 
 pub move_down-requires-2 : goal.move_down-requires-2
 move_down-requires-2 c =
-    let there = lies-there c false c.if-shown.false in
+    let there = in_queue c.args.state c.args.control.now c.args.film.now c.show-shown.result false c.show-shown.ensures c.if-shown-ne-DONE.false c.if-shown.false in
     (there.held_within, there.few, there.size)
 
 pub overflow_sub-result-2 : goal.overflow_sub-result-2
-overflow_sub-result-2 c = (lies-there c false c.if-shown.false).held_within
+overflow_sub-result-2 c = (in_queue c.args.state c.args.control.now c.args.film.now c.show-shown.result false c.show-shown.ensures c.if-shown-ne-DONE.false c.if-shown.false).held_within
 
 pub returns : goal.returns
 returns c =

@@ -1,37 +1,22 @@
--- What the loop of `look` keeps, and what it answers at each of its ends; and that `find` hands it the whole question.
+-- What the loop of `look` keeps, and what it answers at each of its ends.
 use Prim.Native.Nat.{ℕ, ◌+◌, ◌≤◌, ◌<◌, min}
 use native.Mathlib.Omega.{arith}
-use mathlib.Core.Path.{◌≡◌, refl, sym, ◌∙◌, ap, subst}
-use mathlib.Core.Bool.{Bool, true, false, not}
+use mathlib.Core.Path.{◌≡◌, refl, sym, ◌∙◌, ap}
+use mathlib.Core.Bool.{Bool, true, false}
 use mathlib.Core.List.{List}
-use lib.Dec.{T, eqb}
 use lib.ListN.{length, get_or, take, length-take}
 use lib.Seq.{get_or-take}
 use Rattle.octets.proofs.Laws.Tests.{clash}
-use Rattle.area.specs.declared.Area.{Area}
-use Rattle.prefix.specs.declared.Prefix.{Prefix}
 use Rattle.links.specs.declared.Chosen.{Chosen}
 use Rattle.links.specs.declared.Slot.{Slot}
 use Rattle.links.specs.Slots.{free}
-use Rattle.links.proofs.Laws.Search.{Looking, start, hit, pass, end}
+use Rattle.links.proofs.Laws.Counted.{any_default}
+use Rattle.links.proofs.Laws.Search.{Looking, hit, pass, end}
 use Rattle.search.specs.declared.Wanted.{Wanted}
-use Rattle.search.specs.declared.Wanted.TheVariants.{Unused, SameGround, Overlapping}
-use Rattle.search.specs.Search.{link_of, fits, may_fit, sort_of, area_of, prefix_of, question, found_in}
-use Rattle.search.proofs.Laws.Asked.{told_by_parts, fits_may}
-use Rattle.search.proofs.Laws.Found.{found_at_lem, found_none}
+use Rattle.search.specs.Search.{link_of, fits, may_fit, found_in}
+use Rattle.search.proofs.Laws.Asked.{fits_may}
+use Rattle.search.proofs.Laws.Found.{found_at_lem, found_none as found_none_lem}
 use Rattle.run_slots.specs.Run.{found_at, found_none}
-
-is_true : (b : Bool) → T b → b ≡ true
-is_true true h = refl
-is_true false h = absurd h
-
-is_false : (b : Bool) → T (not b) → b ≡ false
-is_false true h = absurd h
-is_false false h = refl
-
--- a test that failed, and what it means
-pub refused : {r : Bool} (b : Bool) → r ≡ b → T (not r) → b ≡ false
-refused {r} b e f = sym e ∙ is_false r f
 
 -- a record that is passed over at the first look does not pass
 pub passed_over : (u : Wanted) (x : Slot) → may_fit u x ≡ false → fits u x ≡ false
@@ -41,47 +26,28 @@ passed_over u x e = go (fits u x) refl
     go true h = clash (fits_may u x h) e
     go false h = refl
 
--- a question that is asked by its sort as a constant
-pub asks_it : (u : Wanted) {k r : ℕ} {a : Area} {p : Prefix} → r ≡ sort_of u → a ≡ area_of u → p ≡ prefix_of u → r ≡ k → question k a p ≡ u
-asks_it u er ea ep e = rw (← e, er, ea, ep) (told_by_parts u)
-
--- what is neither of the first two sorts is of the third
-pub the_third : (u : Wanted) {r : ℕ} → r ≡ sort_of u → T (not (eqb r 0)) → T (not (eqb r 1)) → r ≡ 2
-the_third Unused e first second = absurd (subst (λ (r : ℕ). T (not (eqb r 0))) e first)
-the_third (SameGround a) e first second = absurd (subst (λ (r : ℕ). T (not (eqb r 1))) e second)
-the_third (Overlapping p) e first second = e
-
-pub no_more_than : (count len : ℕ) {n : ℕ} → n ≡ min count len → n ≤ len
-no_more_than count len e = omega (arith, e)
-
 module _ (count : ℕ) (ys : List Slot) (q : Slot → Bool) where
   -- none of the first i of the n records that count passes
-  pub Behind : ℕ → ℕ → Type 0
+  abbrev pub Behind : ℕ → ℕ → Type 0
   Behind n i = Looking q (take count ys) n i
-
-  pub began : {n : ℕ} → n ≡ min count (length ys) → Behind n 0
-  unfolding Behind
-  began e = start q (take count ys) (e ∙ sym (length-take count ys))
 
   module _ {n i : ℕ} (b : Behind n i) where
     within : i < n → i < length (take count ys)
-    unfolding Behind
     within h = omega (arith, h, b.count)
 
     -- a record that counts is read from the whole run
-    counts : i < n → get_or (take count ys) i free ≡ get_or ys i free
-    counts h = get_or-take count ys i free (let l : i < min count (length ys) = rw (← length-take count ys) (within h) in omega (arith, l))
+    counts : (d : Slot) → i < n → get_or (take count ys) i free ≡ get_or ys i d
+    counts d h =
+        let l : i < min count (length ys) = rw (← length-take count ys) (within h) in
+        get_or-take count ys i free (omega (arith, l)) ∙ any_default ys i free d (omega (arith, l))
 
-    pub passed : i < n → q (get_or ys i free) ≡ false → Behind n (i + 1)
-    unfolding Behind
-    passed h e = pass q (take count ys) b free h (ap q (counts h) ∙ e)
+    pub passed : (d : Slot) → i < n → q (get_or ys i d) ≡ false → Behind n (i + 1)
+    passed d h e = pass q (take count ys) b free h (ap q (counts d h) ∙ e)
 
-    pub at_one : (otherwise : Chosen) {r : Bool} → i < n → r ≡ q (get_or ys i free) → T r → found_at i (get_or ys i free) ≡ found_in (take count ys) q otherwise
-    unfolding Behind
-    at_one otherwise {r} h e f =
-        found_at_lem (take count ys) q otherwise i (link_of i (get_or ys i free)) (hit q (take count ys) b free h (ap q (counts h) ∙ sym e ∙ is_true r f)) (within h) refl
-        (ap (λ (x : Slot). x.settings.interface.kind) (sym (counts h)))
+    pub at_one : (otherwise : Chosen) (d : Slot) → i < n → q (get_or ys i d) ≡ true → found_at i (get_or ys i d) ≡ found_in (take count ys) q otherwise
+    at_one otherwise d h e =
+        found_at_lem (take count ys) q otherwise i (link_of i (get_or ys i d)) (hit q (take count ys) b free h (ap q (counts d h) ∙ e)) (within h) refl
+        (ap (λ (x : Slot). x.settings.interface.kind) (sym (counts d h)))
 
     pub at_none : (otherwise : Chosen) → n ≤ i → found_none i otherwise ≡ found_in (take count ys) q otherwise
-    unfolding Behind
-    at_none otherwise h = found_none (take count ys) q otherwise i (end q (take count ys) b free h) (omega (arith, h, b.count))
+    at_none otherwise h = found_none_lem (take count ys) q otherwise i (end q (take count ys) b free h) (omega (arith, h, b.count))

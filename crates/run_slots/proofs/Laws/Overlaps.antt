@@ -12,6 +12,7 @@ use Rattle.links.specs.declared.Chosen.{Chosen}
 use Rattle.links.specs.declared.Slot.{Slot}
 use Rattle.links.specs.Slots.{any, with}
 use Rattle.search.specs.declared.Found.{Found}
+use Rattle.search.specs.declared.Wanted.{Wanted}
 use Rattle.search.specs.declared.Wanted.TheVariants.{Overlapping}
 use Rattle.search.specs.Search.{fits, found_in}
 use Rattle.search.proofs.Laws.Overlaps.{asked_at, asked_by_place, none_past}
@@ -21,6 +22,10 @@ module _ (count : ℕ) (ys : List Slot) (s : Prefixes) (otherwise : Chosen) wher
   -- what is found for the prefix at a place
   abbrev pub FoundFor : ℕ → Found → Type 0
   FoundFor k f = f ≡ found_in (take (count_for count s k) ys) (fits (Overlapping (listed_at s k))) otherwise
+
+  -- by the count and the question of the search
+  pub found_for : (k : ℕ) {n : ℕ} {u : Wanted} {f : Found} → n ≡ count_for count s k → u ≡ Overlapping (listed_at s k) → f ≡ found_in (take n ys) (fits u) otherwise → FoundFor k f
+  found_for k {u = u} en eu e = e ∙ ap (λ (n : ℕ). found_in (take n ys) (fits u) otherwise) en ∙ ap (λ (u : Wanted). found_in (take (count_for count s k) ys) (fits u) otherwise) eu
 
   told : (k : ℕ) {f : Found} → FoundFor k f → f.any ≡ asked_at (take count ys) s k
   unfolding any

@@ -19,15 +19,14 @@ four (a ∷ b ∷ c ∷ []) e = absurd (omega (arith, e))
 four (a ∷ b ∷ c ∷ d ∷ []) e = refl
 four (a ∷ b ∷ c ∷ d ∷ f ∷ l) e = absurd (omega (arith, e))
 
-fits : (c : goal.Start) → SFits w32 c.args.x.settings.area.latitude × SFits w32 c.args.x.settings.area.longitude
-fits c = (search rules, search rules)
-
 pub returns : goal.returns
 returns c =
-    let start = c in
-    let area = start.args.x.settings.area in
-    let p = start.args.x.settings.prefixes in
+    let x = c.args.x in
+    let p = x.settings.prefixes in
+    let area = x.settings.area in
     let lens : length p.lens ≡ 4 = search rules in
     let highs : length p.highs ≡ 4 = search rules in
     let lows : length p.lows ≡ 4 = search rules in
-    rw (four p.lens lens, four p.highs highs, four p.lows lows, to_z-of_z w32 area.latitude (fits start).0, to_z-of_z w32 area.longitude (fits start).1)
+    let latitude : SFits w32 area.latitude = search rules in
+    let longitude : SFits w32 area.longitude = search rules in
+    rw (four p.lens lens, four p.highs highs, four p.lows lows, to_z-of_z w32 area.latitude latitude, to_z-of_z w32 area.longitude longitude)

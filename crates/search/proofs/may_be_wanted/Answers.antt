@@ -12,13 +12,11 @@ returns-then-enabled c = rw (eq-eqb _ _ c.if-sort-eq-OVERLAPPING.true, c.if-enab
 pub returns-else-enabled : goal.returns-else-enabled
 returns-else-enabled c = rw (eq-eqb _ _ c.if-sort-eq-OVERLAPPING.true, c.if-enabled.false)
 
-latitudes : (c : goal.Start) → SFits w32 c.args.x.settings.area.latitude × SFits w32 c.args.n.latitude
-latitudes c = (search rules, search rules)
-
 pub returns-then-sort-eq-SAME_GROUND : goal.returns-then-sort-eq-SAME_GROUND
 returns-then-sort-eq-SAME_GROUND c =
-    let fit = latitudes c in
-    rw (ne_eqb _ _ c.if-sort-eq-OVERLAPPING.false, eq-eqb _ _ c.if-sort-eq-SAME_GROUND.true, eq_bits fit.0 fit.1)
+    let x-fits : SFits w32 c.args.x.settings.area.latitude = search rules in
+    let n-fits : SFits w32 c.args.n.latitude = search rules in
+    rw (ne_eqb _ _ c.if-sort-eq-OVERLAPPING.false, eq-eqb _ _ c.if-sort-eq-SAME_GROUND.true, eq_bits x-fits n-fits)
 
 pub returns : goal.returns
 returns c = rw (ne_eqb _ _ c.if-sort-eq-OVERLAPPING.false, ne_eqb _ _ c.if-sort-eq-SAME_GROUND.false)

@@ -22,5 +22,4 @@ overflow_sub-result c = omega arith
 
 pub returns : goal.returns
 returns c =
-    let tested = c in
-    rw (← tested.too_short.ensures, tested.if1.false, le-ltb _ 2 tested.if2.false, tested.if3.false, ← c.blank_slot-gone.ensures)
+    rw (← c.too_short.ensures, c.if-too_short.false, le-ltb _ 2 c.if-index.false, c.if-not-slot.false, ← c.blank_slot-gone.ensures)

@@ -10,14 +10,16 @@ use borrow.Author.Tests.{ltb-true, ltb-false}
 use borrow.Author.Rules.{rules}
 use Rattle.prefix.specs.declared.Prefix.{Prefix}
 use Rattle.prefixes.specs.declared.Prefixes.{Prefixes}
-use Rattle.prefixes.specs.Prefixes.{overlapping}
+use Rattle.prefixes.specs.Prefixes.{overlapping, listed_at}
 use Rattle.prefixes.proofs.Laws.Count.{one-of_four}
 use Rattle.links.specs.declared.Slot.{Slot}
+use Rattle.links.specs.declared.Table.{Table}
 use Rattle.links.specs.Slots.{counted, any, with}
 use Rattle.search.specs.declared.Found.{Found}
 use Rattle.search.specs.declared.Wanted.TheVariants.{Overlapping}
 use Rattle.search.specs.Search.{passes}
 use Rattle.search.proofs.Laws.Overlaps.{asked_at, asked_by_place, none_past}
+use Rattle.value_slots.specs.Search.{found}
 use Rattle.value_slots.proofs.overlapping.Goals as goal
 
 module _ (l : List Slot) (s : Prefixes) where
@@ -30,6 +32,18 @@ module _ (l : List Slot) (s : Prefixes) where
   somewhere : (k : ℕ) → k < 4 → asked_at l s k ≡ true → true ≡ whole
   somewhere k h e = sym (asked_by_place l s ∙ one-of_four (asked_at l s) k h e)
 
+  -- a place before was asked for, and one from here on is not listed
+  not_here : (k : ℕ) → ((j : ℕ) → j < k → asked_at l s j ≡ false) → s.count ≤ k → (j : ℕ) → asked_at l s j ≡ false
+  not_here k before past j = go (ltb j k) refl
+    where
+      go : (b : Bool) → ltb j k ≡ b → asked_at l s j ≡ false
+      go true e = before j (ltb-true j _ e)
+      go false e = none_past l s j (omega (arith, past, ltb-false j _ e))
+
+found_is : (t : Table) (s : Prefixes) (k : ℕ) (f : Found) (p : Prefix) → f ≡ found t (passes (Overlapping p)) → p ≡ listed_at s k
+    → f.any ≡ asked_at (counted t) s k
+found_is t s k f p e h = ap (λ (f : Found). f.any) e ∙ ap (λ (p : Prefix). any (passes (Overlapping p)) (counted t)) h
+
 pub loop-k-init : goal.loop-k-init
 loop-k-init c = (search rules, λ j h. absurd (omega arith))
 
@@ -37,39 +51,22 @@ pub returns-then-s-k : goal.returns-then-s-k
 returns-then-s-k c =
     let l = counted c.args.t in
     let s = c.args.s in
-    nowhere l s (not-here c 0) (not-here c 1) (not-here c 2) (not-here c 3)
-  where
-    -- a place before was asked for, and one from here on is not listed
-    not-here : (c : goal.Then-s-k invariant-loop decreases-loop) (j : ℕ) → asked_at (counted c.args.t) c.args.s j ≡ false
-    not-here c j = go (ltb j c.loop-k.k) refl
-      where
-        go : (b : Bool) → ltb j c.loop-k.k ≡ b → asked_at (counted c.args.t) c.args.s j ≡ false
-        go true e = c.loop-k.invariant.1 j (ltb-true j _ e)
-        go false e = none_past _ c.args.s j (omega (arith, ltb-false j _ e))
-
-found-is : (c : goal.After-find-found invariant-loop decreases-loop)
-    → c.find-found.result.any ≡ asked_at (counted c.args.t) c.args.s c.loop-k.k
-found-is c =
-    let t = c.args.t in
-    ap (λ (f : Found). f.any) c.find-found.ensures ∙ ap (λ (p : Prefix). any (passes (Overlapping p)) (counted t)) c.at.ensures
+    let none = not_here l s c.loop-k.k c.loop-k.invariant.1 (omega arith) in
+    nowhere l s (none 0) (none 1) (none 2) (none 3)
 
 pub returns-then-found : goal.returns-then-found
 returns-then-found c =
-    let args = c.args in
-    somewhere (counted args.t) args.s c.loop-k.k (omega arith) (sym (found-is c) ∙ c.if-found.true)
-
-pub overflow_add-k : goal.overflow_add-k
-overflow_add-k c = omega arith
-
-pub loop-k-smaller : goal.loop-k-smaller
-loop-k-smaller c = omega arith
+    let t = c.args.t in
+    let s = c.args.s in
+    somewhere (counted t) s c.loop-k.k (omega arith)
+    (sym (found_is t s c.loop-k.k _ _ c.find-found.ensures c.at.ensures) ∙ c.if-found.true)
 
 pub loop-k-preserved : goal.loop-k-preserved
 loop-k-preserved c =
-    (omega arith, below_more _ _ c.loop-k.invariant.1 (sym (found-is c) ∙ c.if-found.false))
+    (omega arith, below_more _ _ c.loop-k.invariant.1 (sym (found_is c.args.t c.args.s c.loop-k.k _ _ c.find-found.ensures c.at.ensures) ∙ c.if-found.false))
 
 pub returns : goal.returns
 returns c =
-    let args = c.args in
+    let t = c.args.t in
     let all = c.loop-k.invariant.1 in
-    nowhere (counted args.t) args.s (all 0 (omega arith)) (all 1 (omega arith)) (all 2 (omega arith)) (all 3 (omega arith))
+    nowhere (counted t) c.args.s (all 0 (omega arith)) (all 1 (omega arith)) (all 2 (omega arith)) (all 3 (omega arith))

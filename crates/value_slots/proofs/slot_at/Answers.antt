@@ -9,18 +9,18 @@ use Rattle.value_slots.specs.Search.{slot_from}
 use Rattle.value_slots.proofs.Laws.Place.{place-fits, from_place}
 use Rattle.value_slots.proofs.slot_at.Goals as goal
 
-all : (c : goal.Start) → length c.args.t1.slots ≡ 64
-all c = search (length_mapped, rules)
-
 pub bounds-t-k : goal.bounds-t-k
-bounds-t-k c = rw c.IsPlace-in.ensures (place-fits c.args.index)
+bounds-t-k c = rw c.place_in-k.ensures (place-fits c.args.index)
 
 pub returns : goal.returns
 returns c =
-    let args = c.args in
+    let t = c.args.t in
+    let all : length t.slots ≡ 64 = search (length_mapped, rules) in
     c.slot_from.ensures
-    ∙ ap (λ k. slot_from args.t1.max args.index (get_or args.t1.slots k _)) c.IsPlace-in.ensures
-    ∙ from_place args.t1 args.index _ (all c)
+    ∙ ap (λ k. slot_from t.max c.args.index (get_or t.slots k _)) c.place_in-k.ensures
+    ∙ from_place t c.args.index _ all
 
 pub offset_bounds-t-k : goal.offset_bounds-t-k
-offset_bounds-t-k c = omega (arith, within c)
+offset_bounds-t-k c =
+    let within : c.place_in-k.result < 64 = rw c.place_in-k.ensures (place-fits c.args.index) in
+    omega (arith, within)

@@ -1,19 +1,14 @@
 -- `value_table::enable` meets its contract.
 use mathlib.Core.Path.{◌≡◌, ◌∙◌, ap}
-use lib.ListN.{length}
-use borrow.Author.Rules.{rules}
-use Rattle.octets.proofs.Laws.Runs.{length_mapped}
+use native.Mathlib.Omega.{arith}
 use Rattle.value_table.specs.Changes.{carried_out}
 use Rattle.value_table.proofs.Laws.Changes.{enable-carried_out, enable-place}
 use Rattle.value_table.proofs.enable.Goals as goal
 
-all : (c : goal.Start) → length c.args.t.slots ≡ 64
-all c = search (length_mapped, rules)
-
 pub carried_out-requires : goal.carried_out-requires
-carried_out-requires c = rw c.enable.ensures (enable-place c.args.t (all c) c.args.s)
+carried_out-requires c = rw c.enable.ensures (enable-place c.args.t (omega arith) c.args.s)
 
 pub returns : goal.returns
 returns c =
     let args = c.args in
-    c.carried_out.ensures ∙ ap (carried_out args.t) c.enable.ensures ∙ enable-carried_out args.t (all c) args.s
+    c.carried_out.ensures ∙ ap (carried_out args.t) c.enable.ensures ∙ enable-carried_out args.t (omega arith) args.s

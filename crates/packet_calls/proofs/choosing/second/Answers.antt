@@ -27,11 +27,11 @@ returns-then-h-found c =
     let args = c.args in
     let x = indication args.h args.packet.now in
     c.asking.ensures
-    ∙ ap (for-source args args.found x) (c.of_address-from.ensures ∙ ap of_address c.source_of.ensures)
-    ∙ by_test args args.found x true c.if-h-found.true
+    ∙ ap (for-source args.before args.found x) (c.of_address-from.ensures ∙ ap of_address c.source_of.ensures)
+    ∙ by_test args.before args.found x true c.if-h-found.true
 
 pub returns : goal.returns
 returns c =
     let args = c.args in
     let x = indication args.h args.packet.now in
-    c.asking-2.ensures ∙ by_test args args.found x false c.if-h-found.false
+    c.asking-2.ensures ∙ by_test args.before args.found x false c.if-h-found.false

@@ -12,6 +12,5 @@ returns-then-not-dynamic_area_good c =
 
 pub returns : goal.returns
 returns c =
-    let tested = c in
     c.without_link-2.ensures
-    ∙ rw (← tested.too_short.ensures, tested.if1.false, ← tested.dynamic-area-good.ensures, tested.if2.false)
+    ∙ rw (← c.too_short.ensures, c.if-too_short.false, ← c.dynamic_area_good.ensures, c.if-not-dynamic_area_good.false)

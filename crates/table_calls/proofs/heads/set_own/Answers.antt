@@ -12,6 +12,5 @@ returns-then-too_short c =
 
 pub returns : goal.returns
 returns c =
-    let tested = c in
     c.without_link-2.ensures
-    ∙ rw (← tested.mid-ok.ensures, tested.if1.false, ← tested.too_short.ensures, tested.if2.false)
+    ∙ rw (← c.mid_ok.ensures, c.if-not-mid_ok.false, ← c.too_short.ensures, c.if-too_short.false)

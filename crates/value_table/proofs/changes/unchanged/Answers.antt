@@ -8,8 +8,5 @@ use Rattle.links.specs.Slots.{free}
 use Rattle.links.proofs.Laws.Counted.{any_default}
 use Rattle.value_table.proofs.changes.unchanged.Goals as goal
 
-all : (c : goal.Start) → length c.args.t1.slots ≡ 64
-all c = search (length_mapped, rules)
-
 pub returns : goal.returns
-returns c = rw (any_default c.args.t1.slots 0 _ free (omega (arith, all c)))
+returns c = rw (any_default c.args.t.slots 0 _ free (omega arith))

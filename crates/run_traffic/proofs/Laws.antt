@@ -1,3 +1,0 @@
--- What the walks of this crate have in common.
-pub mod Sorts
-pub mod Records
