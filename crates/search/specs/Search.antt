@@ -14,9 +14,9 @@ use Rattle.search.specs.declared.Wanted.TheVariants.{Unused, SameGround, Overlap
 
 -- which slot passes a question, by a test of a link's area against the one that is asked for
 abbrev pub passes_by : (Area → Area → Bool) → Wanted → Slot → Bool
-passes_by ground Unused = unused
-passes_by ground (SameGround a) = with (λ r. ground r.area a)
-passes_by ground (Overlapping p) = with (λ r. meets r.prefixes p)
+passes_by alike Unused = unused
+passes_by alike (SameGround a) = with (λ r. alike r.area a)
+passes_by alike (Overlapping p) = with (λ r. meets r.prefixes p)
 
 abbrev pub passes : Wanted → Slot → Bool
 passes wanted = passes_by same_area wanted
