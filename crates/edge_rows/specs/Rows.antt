@@ -1,5 +1,5 @@
 -- RULES, Cases at the edges: those marked * as rows of one list, under the single statement `Edges`.
-use Rattle.std.specs.Prelude.{ℕ, ◌^◌, List, [], ◌∷◌, ◌++◌, pos, take, replicate}
+use Rattle.std.specs.Prelude.{◌^◌, List, [], ◌∷◌, ◌++◌, pos, take, replicate}
 use Rattle.area.specs.Area.{good_area}
 use Rattle.links.specs.declared.PerhapsArea.TheVariants.{Set}
 use Rattle.links.specs.Calls.{enable, disable, set_area, set_own}

@@ -2,7 +2,6 @@
 use Prim.Native.Nat.{ℕ}
 use mathlib.Core.Path.{◌≡◌, refl}
 use mathlib.Core.List.{List}
-use borrow.Author.Rules.{rules}
 use Rattle.search.specs.declared.Found.{Found}
 use Rattle.search.specs.declared.inquiry.Inquiry.{Inquiry}
 use Rattle.dayfile.specs.declared.records.CallCarrying.{CallCarrying}

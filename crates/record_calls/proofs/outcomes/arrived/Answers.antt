@@ -1,5 +1,4 @@
 -- `record_calls::outcomes::arrived` meets its contract.
-use borrow.Author.Rules.{rules}
 use Rattle.record_calls.proofs.outcomes.arrived.Goals as goal
 
 pub returns : goal.returns
