@@ -78,14 +78,17 @@ fn say(rt: &HostRuntime, message: &str) {
     let _ = rt.stderr().print(message);
 }
 
+fn without_number(text: &str) -> &str {
+    match text.split_once(" (os error ") {
+        Some((words, _)) => words,
+        None => text,
+    }
+}
+
 // What the system says of an error, without its number.
 fn reason(rt: &HostRuntime, error: io::Error) -> Result<String, AllocError> {
     let text = error.to_string(rt.alloc())?;
-    let words = match text.split_once(" (os error ") {
-        Some((words, _)) => words,
-        None => text.as_str(),
-    };
-    words.to_string(rt.alloc())
+    without_number(text.as_str()).to_string(rt.alloc())
 }
 
 fn fail(rt: &HostRuntime, part: &str, error: io::Error) {

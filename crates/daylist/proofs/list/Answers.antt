@@ -15,17 +15,20 @@ pub slice_bounds-lines-end : goal.slice_bounds-lines-end
 slice_bounds-lines-end c =
     let args = c.args in
     let day = c.day_of-count in
-    within args.dispatched args.input.now day.new.1.1.1.0 day.result day.ensures.0 day.ensures.1
+    within args.dispatched args.input.now day.new.lines day.result day.ensures.0 day.ensures.1
 
 pub overflow_mul-lines : goal.overflow_mul-lines
 overflow_mul-lines c =
     let args = c.args in
     let day = c.day_of-count in
-    let few = few-listed args.dispatched args.input.now day.new.1.1.1.0 day.result day.ensures.0 in
+    let few = few-listed args.dispatched args.input.now day.new.lines day.result day.ensures.0 in
     omega (arith, few)
 
 pub slice_bounds-write-end : goal.slice_bounds-write-end
-slice_bounds-write-end c = sym (length-take-le _ _ (there c))
+slice_bounds-write-end c =
+    let args = c.args in
+    let day = c.day_of-count in
+    sym (length-take-le _ _ (within args.dispatched args.input.now day.new.lines day.result day.ensures.0 day.ensures.1))
 
 pub returns : goal.returns
 returns c =
@@ -33,6 +36,6 @@ returns c =
     let day = c.day_of-count in
     let wrote = c.write-written in
     let text = args.text.now in
-    let stored = stored-numbers args.dispatched args.input.now day.new.1.1.1.0 day.result day.ensures.0 day.ensures.1 in
-    let many = how_many args.dispatched args.input.now day.new.1.1.1.0 day.result day.ensures.0 in
+    let stored = stored-numbers args.dispatched args.input.now day.new.lines day.result day.ensures.0 day.ensures.1 in
+    let many = how_many args.dispatched args.input.now day.new.lines day.result day.ensures.0 in
     (rw (wrote.ensures.0, stored, many), wrote.ensures.1 ∙ ap (λ (numbers : List ℕ). text_buffer numbers text) stored)
