@@ -2,7 +2,7 @@
 use Prim.Native.Nat.{ℕ, ◌+◌, ◌≤◌}
 use native.Mathlib.Omega.{arith}
 use mathlib.Core.Path.{◌≡◌, refl}
-use mathlib.Core.Bool.{cond, not}
+use mathlib.Core.Bool.{Bool, cond, not}
 use mathlib.Core.List.{List}
 use lib.Dec.{eqb}
 use lib.ListN.{length}
@@ -16,6 +16,11 @@ in_order : (p : List ℕ) → length p ≤ 1280 → 40 ≤ length p
     → refusal (packet_rules p) ≡ cond (not (eqb (version p) 6)) 21 (cond (not (eqb (payload_length p + 40) (length p))) 22 (cond (forbidden p) 10 0))
 unfolding packet_rules
 in_order p short long = rw (le-ltb _ _ short, le-ltb _ _ long)
+
+-- a packet whose version and length field are right too, n being what that field says: the addresses alone decide
+by_addresses : (p : List ℕ) (n : ℕ) (bad : Bool) → length p ≤ 1280 → 40 ≤ length p → version p ≡ 6 → n ≡ payload_length p → n + 40 ≡ length p → bad ≡ forbidden p
+    → refusal (packet_rules p) ≡ cond bad 10 0
+by_addresses p n bad short long right field whole addresses = rw (in_order p short long, eq-eqb (version p) 6 right, ← field, eq-eqb (n + 40) (length p) whole, ← addresses)
 
 pub returns-then-packet-gt1280 : goal.returns-then-packet-gt1280
 unfolding packet_rules
@@ -39,28 +44,14 @@ returns-then-wrong_length c =
 
 pub returns-then-forbidden : goal.returns-then-forbidden
 returns-then-forbidden c =
-    let p = c.args.packet.now in
-    let right : version p ≡ 6 = omega arith in
-    let long : c.number16.result + 40 ≡ length p = omega arith in
     rw (
-      in_order p c.if-packet-gt1280.false c.if-packet-lt40.false,
-      eq-eqb (version p) 6 right,
-      ← c.number16.ensures,
-      eq-eqb (c.number16.result + 40) (length p) long,
-      ← c.is_forbidden-forbidden.ensures,
+      by_addresses c.args.packet.now c.number16.result c.is_forbidden-forbidden.result c.if-packet-gt1280.false c.if-packet-lt40.false (omega arith) c.number16.ensures (omega arith) c.is_forbidden-forbidden.ensures,
       c.if-forbidden.true,
     )
 
 pub returns : goal.returns
 returns c =
-    let p = c.args.packet.now in
-    let right : version p ≡ 6 = omega arith in
-    let long : c.number16.result + 40 ≡ length p = omega arith in
     rw (
-      in_order p c.if-packet-gt1280.false c.if-packet-lt40.false,
-      eq-eqb (version p) 6 right,
-      ← c.number16.ensures,
-      eq-eqb (c.number16.result + 40) (length p) long,
-      ← c.is_forbidden-forbidden.ensures,
+      by_addresses c.args.packet.now c.number16.result c.is_forbidden-forbidden.result c.if-packet-gt1280.false c.if-packet-lt40.false (omega arith) c.number16.ensures (omega arith) c.is_forbidden-forbidden.ensures,
       c.if-forbidden.false,
     )
