@@ -9,7 +9,7 @@ ghost use Rattle.replies.specs.Rules.{refusal};
 ghost use Rattle.frames.specs.Frame.{put, put_length};
 ghost use Rattle.traffic.specs.Arrives.{indication, indication_values, content_rules, choice_rules, mac_to, frame_or_packet, not_received, deliver_on};
 
-use links::{Chosen, PerhapsLink};
+use links::{Chosen};
 use traffic::{Destination, IndicationHead, Reception};
 
 // The number by which its values refuse an indication: 1, or 0.
@@ -52,7 +52,7 @@ pub fn not_received(number: u8, packet: &[u8]) -> Reception
     Reception {
         number: number,
         place: ipv6::fault_place(number, packet),
-        link: PerhapsLink::Nothing,
+        link: None,
         length: 0,
         source: 0,
         class: 0,
@@ -92,7 +92,7 @@ pub fn deliver(link: Chosen, h: IndicationHead, packet: &[u8], out: &mut [u8]) -
     Reception {
         number: replies::DONE,
         place: 0,
-        link: PerhapsLink::Link(index),
+        link: Some(index),
         length: length,
         source: h.source,
         class: h.class,

@@ -3,8 +3,7 @@
 #![tactic(auto)]
 
 use area::Area;
-use ipv6::PerhapsMid;
-use links::{Interface, LinkIndex, PerhapsLink, Settings, StartValues, Table};
+use links::{Interface, LinkIndex, Settings, StartValues, Table};
 use prefix::Prefix;
 use prefixes::Prefixes;
 use std::io::Print;
@@ -90,13 +89,13 @@ fn second_stop(rt: &HostRuntime) {
     print(rt, b"\n");
 }
 
-fn print_link(rt: &HostRuntime, link: PerhapsLink, number: u8) {
+fn print_link(rt: &HostRuntime, link: Option<LinkIndex>, number: u8) {
     match link {
-        PerhapsLink::Link(index) => {
+        Some(index) => {
             print(rt, b"link ");
             print_decimal(rt, index.0 as u64);
         }
-        PerhapsLink::Nothing => {
+        None => {
             print(rt, b"reply ");
             print_decimal(rt, number as u64);
         }
@@ -165,7 +164,7 @@ fn bad_packet(rt: &HostRuntime, fault: &[u8], expected: &[u8], packet: &[u8]) {
     let q = RequestHead {
         index: LinkIndex::TVL,
         class: 0,
-        neighbour: PerhapsMid::Nothing,
+        neighbour: None,
     };
     let hop = octets::part(packet, 24, 16);
     let sent = value_traffic::request(with_one_stop(), q, hop, packet);
@@ -261,7 +260,7 @@ fn show(
     rt: &HostRuntime,
     expected: &[u8],
     flag: u8,
-    neighbour: PerhapsMid,
+    neighbour: Option<u64>,
     hop: &[u8],
     packet: &[u8],
 ) {
@@ -314,7 +313,7 @@ fn show_next_hops(rt: &HostRuntime) {
         rt,
         b"request to a film server behind the mast: expected 1 to 02:00:00:00:00:01 class 7 length 40",
         1,
-        PerhapsMid::Nothing,
+        None,
         &mast(),
         &film,
     );
@@ -322,7 +321,7 @@ fn show_next_hops(rt: &HostRuntime) {
         rt,
         b"request to a film server as its own next hop: expected 12",
         1,
-        PerhapsMid::Nothing,
+        None,
         &in_internet(5),
         &film,
     );
@@ -330,7 +329,7 @@ fn show_next_hops(rt: &HostRuntime) {
         rt,
         b"request by a mast without FF FE, MID given: expected 1 to 02:00:00:00:00:02 class 7 length 40",
         0,
-        PerhapsMid::Mid(0x0200_0000_0002),
+        Some(0x0200_0000_0002),
         &in_internet(1),
         &film,
     );
@@ -338,7 +337,7 @@ fn show_next_hops(rt: &HostRuntime) {
         rt,
         b"multicast request with next hop ::: expected 3 to 1 0 0 500 300 90 class 7 length 40",
         1,
-        PerhapsMid::Nothing,
+        None,
         &[0u8; 16],
         &packet(),
     );

@@ -10,7 +10,7 @@ ghost use Rattle.ipv6.specs.Identifier.{flipped, identifier, link_local, mid_of}
 
 // A MID, where there is one to be had.
 #[derive(Clone, Copy)]
-pub enum PerhapsMid {
+pub enum Option<u64> {
     Mid(u64),
     Nothing,
 }
@@ -141,17 +141,17 @@ pub fn link_local_of(mid: u64) -> [u8; 16]
 }
 
 // The MID from which an address was built, if it was. With FF FE in its place it is neither :: nor ::1, so these are not asked.
-pub fn mid_of(address: &[u8]) -> PerhapsMid
+pub fn mid_of(address: &[u8]) -> Option<u64>
     ensures { result ≡ mid_of address.now }
 {
     if address.len() != 16 {
-        return PerhapsMid::Nothing;
+        return None;
     }
     if !((address[11] == 0xff) & (address[12] == 0xfe)) {
-        return PerhapsMid::Nothing;
+        return None;
     }
     if address[0] == 0xff {
-        return PerhapsMid::Nothing;
+        return None;
     }
     let mac = [
         flip(address[8]),
@@ -161,5 +161,5 @@ pub fn mid_of(address: &[u8]) -> PerhapsMid
         address[14],
         address[15],
     ];
-    PerhapsMid::Mid(octets::mid(&mac, 0))
+    Some(octets::mid(&mac, 0))
 }

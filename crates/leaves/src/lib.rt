@@ -6,48 +6,48 @@ ghost use Rattle.std.specs.Prelude.{◌≡◌, []};
 ghost use Rattle.replies.specs.Rules.{refusal};
 ghost use Rattle.traffic.specs.Leaves.{request, neighbour_ok, neighbour_of, is_unset, within, request_values, not_sent, send_named, send_on, interface_on};
 
-use ipv6::PerhapsMid;
-use links::{Interface, LinkIndex, Named, PerhapsArea};
+use area::Area;
+use links::{Interface, LinkIndex, Named};
 use traffic::{Destination, InterfaceAddress, RequestHead, Sending};
 
-fn neighbour_ok(neighbour: PerhapsMid) -> bool
+fn neighbour_ok(neighbour: Option<u64>) -> bool
     ensures { result ≡ neighbour_ok neighbour }
 {
     match neighbour {
-        PerhapsMid::Mid(m) => links::checks::mid_ok(m),
-        PerhapsMid::Nothing => true,
+        Some(m) => links::checks::mid_ok(m),
+        None => true,
     }
 }
 
 // The neighbour's MID: derived from the next hop, or the one given. A next hop that is not good has none to derive, so it is asked
 // only where the MID is given.
-fn neighbour_of(f: Interface, given: PerhapsMid, hop: &[u8]) -> PerhapsMid
+fn neighbour_of(f: Interface, given: Option<u64>, hop: &[u8]) -> Option<u64>
     ensures { result ≡ neighbour_of f given hop.now }
 {
     if (f.kind == links::POINT_TO_POINT) | (f.flag == 1) {
         return ipv6::mid_of(hop);
     }
     if !ipv6::is_good_hop(hop) {
-        return PerhapsMid::Nothing;
+        return None;
     }
     given
 }
 
-fn is_unset(a: PerhapsArea) -> bool
+fn is_unset(a: Option<Area>) -> bool
     ensures { result ≡ is_unset a }
 {
     match a {
-        PerhapsArea::Set(_) => false,
-        PerhapsArea::Unset => true,
+        Some(_) => false,
+        None => true,
     }
 }
 
-fn within_area(a: PerhapsArea) -> Destination
+fn within_area(a: Option<Area>) -> Destination
     ensures { result ≡ within a }
 {
     match a {
-        PerhapsArea::Set(x) => Destination::Within(x),
-        PerhapsArea::Unset => Destination::Nothing,
+        Some(x) => Destination::Within(x),
+        None => Destination::Nothing,
     }
 }
 
@@ -116,13 +116,13 @@ pub fn send_on(link: Named, h: RequestHead, hop: &[u8], packet: &[u8]) -> Sendin
     let f = link.interface;
     let neighbour = h.neighbour;
     match neighbour_of(f, neighbour, hop) {
-        PerhapsMid::Mid(m) => sent(
+        Some(m) => sent(
             traffic::GEO_UNICAST,
             Destination::Mid(m),
             h.class,
             packet.len(),
         ),
-        PerhapsMid::Nothing => not_sent(replies::NEIGHBOUR_UNKNOWN, packet),
+        None => not_sent(replies::NEIGHBOUR_UNKNOWN, packet),
     }
 }
 

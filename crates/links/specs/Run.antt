@@ -1,13 +1,10 @@
 -- RULES, A table over a run: a head by value and a lent run of link records, one per stop index. The calls on it are those on every
 -- table, with one refusal more: 23, a run that is too short.
-use Rattle.std.specs.Prelude.{ℕ, zero, suc, ◌-◌, ◌≡◌, Bool, not, List, [], ◌++◌, ltb, length}
+use Rattle.std.specs.Prelude.{ℕ, zero, suc, ◌-◌, ◌≡◌, Bool, not, List, [], ◌++◌, ltb, length, None, Option, Some}
 use Rattle.replies.specs.Rules.{Rule, ◌if◌, ◌then◌, refusal}
 use Rattle.links.specs.declared.Begun.{Begun}
 use Rattle.links.specs.declared.Head.{Head}
 use Rattle.links.specs.declared.HeadReply.{HeadReply}
-use Rattle.links.specs.declared.PerhapsArea.TheVariants.{Unset}
-use Rattle.links.specs.declared.PerhapsHead.{PerhapsHead}
-use Rattle.links.specs.declared.PerhapsHead.TheVariants.{Given, Nothing}
 use Rattle.links.specs.declared.Reply.{Reply}
 use Rattle.links.specs.declared.Slot.{Slot}
 use Rattle.links.specs.declared.StartValues.{StartValues}
@@ -51,11 +48,11 @@ unfoldable pub start_rules_over : List Slot → StartValues → List Rule
 start_rules_over run v = start_values 4093 v ++ (23 if too_short v.max run then [])
 
 abbrev pub fresh_head : StartValues → Head
-fresh_head v = record { own = v.own; max = v.max; tvl = v.tvl; dgvl = v.dgvl; area = Unset }
+fresh_head v = record { own = v.own; max = v.max; tvl = v.tvl; dgvl = v.dgvl; area = None }
 
 pub record Started : Type 0 where
   pub number : ℕ
-  pub head : PerhapsHead
+  pub head : Option Head
   pub run : List Slot
 
 -- what a start promises, likewise
@@ -64,8 +61,8 @@ Begins q r run = record { number = r.number; head = r.head; run = run } ≡ q
 
 -- run-start: maximum - 1 records are cleared, and the rest stays; a refused start changes nothing and gives no table
 abbrev pub begin_over : ℕ → List Slot → StartValues → Started
-begin_over zero run v = record { number = 0; head = Given (fresh_head v); run = cleared (v.max - 1) run }
-begin_over (suc n) run v = record { number = suc n; head = Nothing; run = run }
+begin_over zero run v = record { number = 0; head = Some (fresh_head v); run = cleared (v.max - 1) run }
+begin_over (suc n) run v = record { number = suc n; head = None; run = run }
 
 unfoldable pub start_over : List Slot → StartValues → Started
 start_over run v = begin_over (refusal (start_rules_over run v)) run v

@@ -5,7 +5,8 @@ ghost use Rattle.replies.specs.Rules.{refusal, ◌if◌, ◌then◌};
 ghost use Rattle.links.specs.Settings.{mid_ok, interface_ok, retired, settings_values, ground_rules};
 ghost use Rattle.links.specs.Calls.{good_dynamic, start_values};
 
-use crate::{Interface, LinkIndex, PerhapsArea, Settings, StartValues};
+use area::Area;
+use crate::{Interface, LinkIndex, Settings, StartValues};
 
 pub fn mid_ok(mid: u64) -> bool
     ensures { result ≡ mid_ok mid }
@@ -26,12 +27,12 @@ pub fn retired(f: Interface) -> bool
     f.kind == crate::NBMA
 }
 
-pub fn dynamic_area_good(a: PerhapsArea) -> bool
+pub fn dynamic_area_good(a: Option<Area>) -> bool
     ensures { result ≡ good_dynamic a }
 {
     match a {
-        PerhapsArea::Set(x) => area::good(x),
-        PerhapsArea::Unset => true,
+        Some(x) => area::good(x),
+        None => true,
     }
 }
 

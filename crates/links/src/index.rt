@@ -2,13 +2,14 @@
 ghost use Rattle.std.specs.Prelude.{◌≡◌};
 ghost use Rattle.links.specs.Index.{named_from};
 
-use crate::{Interface, LinkIndex, Named, PerhapsArea, Slot};
+use area::Area;
+use crate::{Interface, LinkIndex, Named, Slot};
 
 // Its interface and its area. The topological link has no area, the dynamic link perhaps one.
 pub fn link_from(
     tvl: Interface,
     dgvl: Interface,
-    area: PerhapsArea,
+    area: Option<Area>,
     index: LinkIndex,
     slot: Slot,
 ) -> Named
@@ -18,7 +19,7 @@ pub fn link_from(
         return Named {
             enabled: true,
             interface: tvl,
-            area: PerhapsArea::Unset,
+            area: None,
         };
     }
     if index.0 == LinkIndex::DGVL.0 {
@@ -34,6 +35,6 @@ pub fn link_from(
     Named {
         enabled: slot.enabled,
         interface: f,
-        area: PerhapsArea::Set(a),
+        area: Some(a),
     }
 }

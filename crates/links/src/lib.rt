@@ -63,7 +63,7 @@ pub struct Slot {
 
 // The area of a link, where it has one: a stop link has, the topological link has none, the dynamic link's may be set and cleared.
 #[derive(Clone, Copy)]
-pub enum PerhapsArea {
+pub enum Option<Area> {
     Set(Area),
     Unset,
 }
@@ -83,7 +83,7 @@ pub struct Table {
     pub max: usize,
     pub tvl: Interface,
     pub dgvl: Interface,
-    pub area: PerhapsArea,
+    pub area: Option<Area>,
     pub slots: [Slot; SLOTS],
 }
 
@@ -94,18 +94,18 @@ pub struct Head {
     pub max: usize,
     pub tvl: Interface,
     pub dgvl: Interface,
-    pub area: PerhapsArea,
+    pub area: Option<Area>,
 }
 
 // A table over a run, where a start gave one.
 #[derive(Clone, Copy)]
-pub enum PerhapsHead {
+pub enum Option<Head> {
     Given(Head),
     Nothing,
 }
 
 #[derive(Clone, Copy)]
-pub enum PerhapsLink {
+pub enum Option<LinkIndex> {
     Link(LinkIndex),
     Nothing,
 }
@@ -122,7 +122,7 @@ pub struct Chosen {
 pub struct Named {
     pub enabled: bool,
     pub interface: Interface,
-    pub area: PerhapsArea,
+    pub area: Option<Area>,
 }
 
 // What a disabled slot holds.
@@ -161,7 +161,7 @@ impl Table {
             max: v.max,
             tvl: tvl,
             dgvl: dgvl,
-            area: PerhapsArea::Unset,
+            area: None,
             slots: [blank_slot(); SLOTS],
         }
     }
@@ -189,7 +189,7 @@ impl Table {
 #[derive(Clone, Copy)]
 pub struct Reply {
     pub number: u8,
-    pub link: PerhapsLink,
+    pub link: Option<LinkIndex>,
     pub table: Table,
 }
 
@@ -198,7 +198,7 @@ pub struct Reply {
 #[derive(Clone, Copy)]
 pub struct HeadReply {
     pub number: u8,
-    pub link: PerhapsLink,
+    pub link: Option<LinkIndex>,
     pub head: Head,
 }
 
@@ -206,5 +206,5 @@ pub struct HeadReply {
 #[derive(Clone, Copy)]
 pub struct Begun {
     pub number: u8,
-    pub head: PerhapsHead,
+    pub head: Option<Head>,
 }

@@ -10,7 +10,7 @@ ghost use Rattle.record_calls.specs.Turns.{stays, slot_altered, head_altered, he
 
 use crate::{BoxHead, Outcome};
 use dayfile::records::{Call, CallCarrying, CallOnTable, NextHop, Record};
-use links::{Chosen, Head, HeadReply, PerhapsHead, Slot, StartValues};
+use links::{Chosen, Head, HeadReply, Slot, StartValues};
 use replay::{Line, boxes, lines, turns};
 use search::Found;
 use search::inquiry::Inquiry;
@@ -73,12 +73,12 @@ fn head_altered(b: BoxHead, records: usize, next: usize, reply: HeadReply) -> Ou
     }
 }
 
-fn head_in(before: Head, given: PerhapsHead) -> Head
+fn head_in(before: Head, given: Option<Head>) -> Head
     ensures { result ≡ head_in before given }
 {
     match given {
-        PerhapsHead::Given(h) => h,
-        PerhapsHead::Nothing => before,
+        Some(h) => h,
+        None => before,
     }
 }
 

@@ -6,7 +6,8 @@
 ghost use Rattle.links.specs.Calls.{enable, disable, set_area, set_own};
 ghost use Rattle.links.specs.Run.{over, reply_over, start_over, Left, Begins};
 
-use links::{Begun, Head, HeadReply, LinkIndex, PerhapsArea, Settings, Slot, StartValues};
+use area::Area;
+use links::{Begun, Head, HeadReply, LinkIndex, Settings, Slot, StartValues};
 use table_calls::{enabling, heads};
 
 // The first maximum - 1 records are cleared, and the rest stays.
@@ -44,7 +45,7 @@ pub fn disable(run: &mut [Slot], head: Head, index: LinkIndex) -> HeadReply
     table_calls::reply(head, change)
 }
 
-pub fn set_dgvl_area(run: &[Slot], head: Head, a: PerhapsArea) -> HeadReply
+pub fn set_dgvl_area(run: &[Slot], head: Head, a: Option<Area>) -> HeadReply
     ensures { Left (reply_over (over head run.now) (set_area a)) result run.now }
 {
     heads::set_area(head, run.len(), a)

@@ -1,15 +1,13 @@
 -- The calls on the table step by step: what each asks of the slots, and what it makes of the answer. What that comes to is told by
 -- `reply` of links, and over a run by `reply_over`; the laws say so.
-use Rattle.std.specs.Prelude.{ℕ, ◌-◌, Bool, cond, not, ◌||◌, List, [], ◌++◌, eqb, ltb, leb}
+use Rattle.area.specs.declared.Area.{Area}
+use Rattle.std.specs.Prelude.{ℕ, ◌-◌, Bool, cond, not, ◌||◌, List, [], ◌++◌, eqb, ltb, leb, None, Option, Some}
 use Rattle.replies.specs.Rules.{Rule, ◌if◌, ◌then◌, refusal}
 use Rattle.links.specs.declared.Begun.{Begun}
 use Rattle.links.specs.declared.Chosen.{Chosen}
 use Rattle.links.specs.declared.Head.{Head}
 use Rattle.links.specs.declared.HeadReply.{HeadReply}
 use Rattle.links.specs.declared.LinkIndex.{LinkIndex}
-use Rattle.links.specs.declared.PerhapsArea.{PerhapsArea}
-use Rattle.links.specs.declared.PerhapsHead.TheVariants.{Given, Nothing as NoHead}
-use Rattle.links.specs.declared.PerhapsLink.TheVariants.{Link, Nothing}
 use Rattle.links.specs.declared.Settings.{Settings}
 use Rattle.links.specs.declared.Slot.{Slot}
 use Rattle.links.specs.declared.StartValues.{StartValues}
@@ -30,7 +28,7 @@ abbrev pub slot_place : ℕ → ℕ → LinkIndex → ℕ
 slot_place max records i = cond (is_fixed i || leb (max - 1) (place_of i)) records (place_of i)
 
 abbrev pub unchanged_by : ℕ → ℕ → SlotChange
-unchanged_by number records = record { number = number; link = Nothing; place = records; slot = free }
+unchanged_by number records = record { number = number; link = None; place = records; slot = free }
 
 abbrev pub head_reply : Head → SlotChange → HeadReply
 head_reply h c = record { number = c.number; link = c.link; head = h }
@@ -60,21 +58,21 @@ unused_asked i overlapping = asking (after i.number 5 overlapping) i.count Unuse
 abbrev pub enabled : Inquiry → Found → ℕ → Settings → SlotChange
 enabled i lowest records s =
     let n = after i.number 6 (not lowest.any) in
-    cond (eqb n 0) (record { number = 0; link = Link lowest.link.index; place = lowest.place; slot = in_use (stored s) }) (unchanged_by n records)
+    cond (eqb n 0) (record { number = 0; link = Some lowest.link.index; place = lowest.place; slot = in_use (stored s) }) (unchanged_by n records)
 
 -- Disable
 
 abbrev pub disabled : ℕ → ℕ → LinkIndex → Slot → SlotChange
 disabled max records i x =
     let n = refusal (23 if ltb records (max - 1) then 15 if is_fixed i then 7 if not x.enabled then []) in
-    cond (eqb n 0) (record { number = 0; link = Nothing; place = place_of i; slot = free }) (unchanged_by n records)
+    cond (eqb n 0) (record { number = 0; link = None; place = place_of i; slot = free }) (unchanged_by n records)
 
 -- The calls that alter the head alone
 
 abbrev pub head_or : ℕ → Head → Head → HeadReply
-head_or n h new = record { number = n; link = Nothing; head = cond (eqb n 0) new h }
+head_or n h new = record { number = n; link = None; head = cond (eqb n 0) new h }
 
-abbrev pub area_set : Head → ℕ → PerhapsArea → HeadReply
+abbrev pub area_set : Head → ℕ → Option Area → HeadReply
 area_set h records a =
     head_or (refusal (23 if ltb records (h.max - 1) then 2 if not (good_dynamic a) then [])) h
     (record { own = h.own; max = h.max; tvl = h.tvl; dgvl = h.dgvl; area = a })
@@ -92,4 +90,4 @@ beginning records v =
     record { number = n; count = cond (eqb n 0) (v.max - 1) 0 }
 
 abbrev pub begun : ℕ → StartValues → Begun
-begun n v = record { number = n; head = cond (eqb n 0) (Given (fresh_head v)) NoHead }
+begun n v = record { number = n; head = cond (eqb n 0) (Some (fresh_head v)) None }

@@ -5,7 +5,7 @@ ghost use Rattle.links.specs.Settings.{stored};
 ghost use Rattle.table_calls.specs.Steps.{enable_rules, no_link, ground_asked, overlap_asked, unused_asked, enabled};
 
 use crate::SlotChange;
-use links::{Chosen, LinkIndex, PerhapsLink, Settings, Slot};
+use links::{Chosen, LinkIndex, Settings, Slot};
 use search::inquiry::Inquiry;
 use search::{Found, Wanted, inquiry};
 
@@ -120,7 +120,7 @@ pub fn change(before: Inquiry, lowest: Found, records: usize, s: Settings) -> Sl
     };
     SlotChange {
         number: replies::DONE,
-        link: PerhapsLink::Link(index),
+        link: Some(index),
         place: lowest.place,
         slot: slot,
     }

@@ -1,21 +1,22 @@
 // The calls that alter the head alone: the DGVL's area, the own MID, and a start.
-ghost use Rattle.std.specs.Prelude.{◌≡◌};
+ghost use Rattle.std.specs.Prelude.{◌≡◌, None};
 ghost use Rattle.table_calls.specs.Steps.{area_set, own_set, beginning, begun};
 
-use links::{Begun, Head, HeadReply, PerhapsArea, PerhapsHead, PerhapsLink, StartValues};
+use area::Area;
+use links::{Begun, Head, HeadReply, StartValues};
 use search::inquiry;
 
 fn without_link(number: u8, head: Head) -> HeadReply
-    ensures { result ≡ record { number = number; link = PerhapsLink.Nothing; head = head } }
+    ensures { result ≡ record { number = number; link = None; head = head } }
 {
     HeadReply {
         number: number,
-        link: PerhapsLink::Nothing,
+        link: None,
         head: head,
     }
 }
 
-pub fn set_area(head: Head, records: usize, a: PerhapsArea) -> HeadReply
+pub fn set_area(head: Head, records: usize, a: Option<Area>) -> HeadReply
     ensures { result ≡ area_set head records a }
 {
     if links::checks::too_short(head.max, records) {
@@ -90,7 +91,7 @@ pub fn begun(number: u8, v: StartValues) -> Begun
     if number != replies::DONE {
         return Begun {
             number: number,
-            head: PerhapsHead::Nothing,
+            head: None,
         };
     }
     let tvl = v.tvl;
@@ -100,10 +101,10 @@ pub fn begun(number: u8, v: StartValues) -> Begun
         max: v.max,
         tvl: tvl,
         dgvl: dgvl,
-        area: PerhapsArea::Unset,
+        area: None,
     };
     Begun {
         number: number,
-        head: PerhapsHead::Given(head),
+        head: Some(head),
     }
 }

@@ -6,18 +6,18 @@
 pub mod enabling;
 pub mod heads;
 
-ghost use Rattle.std.specs.Prelude.{◌≡◌};
+ghost use Rattle.std.specs.Prelude.{◌≡◌, None};
 ghost use Rattle.links.specs.Slots.{free};
 ghost use Rattle.table_calls.specs.Steps.{slot_place, disabled, head_reply};
 
-use links::{Head, HeadReply, LinkIndex, PerhapsLink, Slot};
+use links::{Head, HeadReply, LinkIndex, Slot};
 
 // What a call changes: its number, the link that it gives, and one slot with its place. Nothing changes where the place is behind
 // the last slot.
 #[derive(Clone, Copy)]
 pub struct SlotChange {
     pub number: u8,
-    pub link: PerhapsLink,
+    pub link: Option<LinkIndex>,
     pub place: usize,
     pub slot: Slot,
 }
@@ -38,11 +38,11 @@ pub fn slot_place(max: usize, records: usize, index: LinkIndex) -> usize
 
 // A refusal, by its number.
 fn unchanged(number: u8, records: usize) -> SlotChange
-    ensures { result ≡ record { number = number; link = PerhapsLink.Nothing; place = records; slot = free } }
+    ensures { result ≡ record { number = number; link = None; place = records; slot = free } }
 {
     SlotChange {
         number: number,
-        link: PerhapsLink::Nothing,
+        link: None,
         place: records,
         slot: links::blank_slot(),
     }
@@ -64,7 +64,7 @@ pub fn disable(max: usize, records: usize, index: LinkIndex, slot: Slot) -> Slot
     let gone = links::blank_slot();
     SlotChange {
         number: replies::DONE,
-        link: PerhapsLink::Nothing,
+        link: None,
         place: index.0 - LinkIndex::FIRST_STOP.0,
         slot: gone,
     }

@@ -3,8 +3,7 @@
 #![tactic(auto)]
 
 use area::Area;
-use ipv6::PerhapsMid;
-use links::{LinkIndex, PerhapsLink};
+use links::{LinkIndex};
 
 // The transports of GeoNetworking.
 pub const GEO_UNICAST: u8 = 1;
@@ -37,7 +36,7 @@ pub struct IndicationHead {
 pub struct RequestHead {
     pub index: LinkIndex,
     pub class: u8,
-    pub neighbour: PerhapsMid,
+    pub neighbour: Option<u64>,
 }
 
 // What an indication answers; what is written stands in the lent buffer. The place is that of a fault in its packet.
@@ -45,7 +44,7 @@ pub struct RequestHead {
 pub struct Reception {
     pub number: u8,
     pub place: usize,
-    pub link: PerhapsLink,
+    pub link: Option<LinkIndex>,
     pub length: usize,
     pub source: u64,
     pub class: u8,
@@ -56,7 +55,7 @@ pub struct Reception {
 pub struct Choice {
     pub number: u8,
     pub place: usize,
-    pub link: PerhapsLink,
+    pub link: Option<LinkIndex>,
 }
 
 // What a request answers: what goes down to GeoNetworking with its packet.

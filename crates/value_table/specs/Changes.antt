@@ -1,9 +1,7 @@
 -- What an enable, a disable and a new own MID change, and a change carried out on the table on which it was decided.
-use Rattle.std.specs.Prelude.{ℕ, zero, suc, cond, eqb, get_or, set}
+use Rattle.std.specs.Prelude.{ℕ, zero, suc, cond, eqb, get_or, set, None, Option, Some}
 use Rattle.replies.specs.Rules.{refusal}
 use Rattle.links.specs.declared.LinkIndex.{LinkIndex}
-use Rattle.links.specs.declared.PerhapsLink.{PerhapsLink}
-use Rattle.links.specs.declared.PerhapsLink.TheVariants.{Link, Nothing}
 use Rattle.links.specs.declared.Reply.{Reply}
 use Rattle.links.specs.declared.Settings.{Settings}
 use Rattle.links.specs.declared.Slot.{Slot}
@@ -16,9 +14,9 @@ use Rattle.value_table.specs.declared.changes.Change.{Change}
 
 -- what does not change is told as it was: the own MID, and the first slot
 abbrev pub unchanged_by : Table → ℕ → Change
-unchanged_by t number = record { number = number; link = Nothing; own = t.own; place = 0; slot = get_or t.slots 0 free }
+unchanged_by t number = record { number = number; link = None; own = t.own; place = 0; slot = get_or t.slots 0 free }
 
-abbrev pub slot_change : Table → PerhapsLink → ℕ → Slot → Change
+abbrev pub slot_change : Table → Option LinkIndex → ℕ → Slot → Change
 slot_change t link k x = record { number = 0; link = link; own = t.own; place = k; slot = x }
 
 -- a change of one slot, as it is decided, over this table
@@ -33,15 +31,15 @@ change_or (suc n) t x = unchanged_by t (suc n)
 unfoldable pub enable_change : Table → Settings → Change
 enable_change t s =
     let k = place unused (counted t) in
-    change_or (refusal (rules (counted t) (enable s))) t (slot_change t (Link (index_at k)) k (in_use (stored s)))
+    change_or (refusal (rules (counted t) (enable s))) t (slot_change t (Some (index_at k)) k (in_use (stored s)))
 
 unfoldable pub disable_change : Table → LinkIndex → Change
-disable_change t i = change_or (refusal (rules (counted t) (disable i))) t (slot_change t Nothing (place_of i) free)
+disable_change t i = change_or (refusal (rules (counted t) (disable i))) t (slot_change t None (place_of i) free)
 
 unfoldable pub own_change : Table → ℕ → Change
 own_change t m =
     change_or (refusal (rules (counted t) (set_own m))) t
-    (record { number = 0; link = Nothing; own = m; place = 0; slot = get_or t.slots 0 free })
+    (record { number = 0; link = None; own = m; place = 0; slot = get_or t.slots 0 free })
 
 abbrev pub carried_out : Table → Change → Reply
 carried_out t c = record {

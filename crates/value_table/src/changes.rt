@@ -5,7 +5,7 @@ ghost use Rattle.std.specs.Prelude.{◌≡◌};
 ghost use Rattle.links.specs.Slots.{counted, slot_at};
 ghost use Rattle.value_table.specs.Changes.{unchanged_by, of_slot, enable_change, disable_change, own_change};
 
-use links::{LinkIndex, PerhapsLink, Settings, Slot, Table};
+use links::{LinkIndex, Settings, Slot, Table};
 use table_calls::{SlotChange, enabling};
 
 // The number and the link of the reply, and what the table holds behind the call: its own MID, and one slot by its place. What does
@@ -13,7 +13,7 @@ use table_calls::{SlotChange, enabling};
 #[derive(Clone, Copy)]
 pub struct Change {
     pub number: u8,
-    pub link: PerhapsLink,
+    pub link: Option<LinkIndex>,
     pub own: u64,
     pub place: usize,
     pub slot: Slot,
@@ -26,7 +26,7 @@ pub fn unchanged(t: Table, number: u8) -> Change
     let slot = t.slots[0];
     Change {
         number: number,
-        link: PerhapsLink::Nothing,
+        link: None,
         own: t.own,
         place: 0,
         slot: slot,
@@ -104,7 +104,7 @@ pub fn own_mid(t: Table, mid: u64) -> Change
     let slot = t.slots[0];
     Change {
         number: replies::DONE,
-        link: PerhapsLink::Nothing,
+        link: None,
         own: mid,
         place: 0,
         slot: slot,

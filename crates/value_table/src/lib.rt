@@ -4,19 +4,20 @@
 
 pub mod changes;
 
-ghost use Rattle.std.specs.Prelude.{◌≡◌, ◌<◌};
+ghost use Rattle.std.specs.Prelude.{◌≡◌, ◌<◌, None};
 ghost use Rattle.links.specs.Calls.{start_by_value, reply, enable, disable, set_area, set_own};
 ghost use Rattle.value_table.specs.Changes.{carried_out};
 
+use area::Area;
 use changes::Change;
-use links::{LinkIndex, PerhapsArea, PerhapsLink, Reply, Settings, StartValues, Table};
+use links::{LinkIndex, Reply, Settings, StartValues, Table};
 
 fn without_link(t: Table, number: u8) -> Reply
-    ensures { result ≡ record { number = number; link = PerhapsLink.Nothing; table = t } }
+    ensures { result ≡ record { number = number; link = None; table = t } }
 {
     Reply {
         number: number,
-        link: PerhapsLink::Nothing,
+        link: None,
         table: t,
     }
 }
@@ -59,7 +60,7 @@ pub fn disable(t: Table, index: LinkIndex) -> Reply
     carried_out(t, changes::disable(t, index))
 }
 
-pub fn set_dgvl_area(t: Table, a: PerhapsArea) -> Reply
+pub fn set_dgvl_area(t: Table, a: Option<Area>) -> Reply
     ensures { result ≡ reply t (set_area a) }
 {
     if !links::checks::dynamic_area_good(a) {

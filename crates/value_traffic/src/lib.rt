@@ -8,7 +8,7 @@ ghost use Rattle.std.specs.Prelude.{◌≡◌};
 ghost use Rattle.traffic.specs.Arrives.{indication, choice_of, Promised};
 ghost use Rattle.traffic.specs.Leaves.{request, send, interface};
 
-use links::{LinkIndex, PerhapsLink, Table};
+use links::{LinkIndex, Table};
 use traffic::{Choice, IndicationHead, InterfaceAddress, Reception, RequestHead, Sending};
 
 // Which link an indication would take, where no buffer is lent.
@@ -20,7 +20,7 @@ pub fn link_of(t: Table, h: IndicationHead, packet: &[u8]) -> Choice
         return Choice {
             number: bad,
             place: ipv6::fault_place(bad, packet),
-            link: PerhapsLink::Nothing,
+            link: None,
         };
     }
     let chosen = choice::chosen_for(t, h, packet);
@@ -28,7 +28,7 @@ pub fn link_of(t: Table, h: IndicationHead, packet: &[u8]) -> Choice
     Choice {
         number: replies::DONE,
         place: 0,
-        link: PerhapsLink::Link(index),
+        link: Some(index),
     }
 }
 

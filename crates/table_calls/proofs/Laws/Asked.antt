@@ -1,12 +1,12 @@
 -- A question behind another: what is asked, and with what number, by the answers of the slots that count, whatever the layout of the
 -- table. A call that is refused before asks no more: its number stays, and what it is answered is no matter.
+use Rattle.std.specs.Prelude.{Some}
 use Prim.Native.Nat.{ℕ, zero, suc}
 use mathlib.Core.Path.{◌≡◌, refl, sym, ◌∙◌, ap}
 use mathlib.Core.Bool.{Bool, true, false, cond, not}
 use mathlib.Core.List.{List}
 use lib.Dec.{eqb, eqb-suc-zero}
 use Rattle.links.specs.declared.Chosen.{Chosen}
-use Rattle.links.specs.declared.PerhapsLink.TheVariants.{Link}
 use Rattle.links.specs.declared.Settings.{Settings}
 use Rattle.links.specs.declared.Slot.{Slot}
 use Rattle.links.specs.Settings.{overlaps, overlaps_itself, stored}
@@ -36,7 +36,7 @@ change_or n c records = cond (eqb n 0) c (unchanged_by n records)
 
 -- the lowest index that is unused is taken
 abbrev pub taken : List Slot → Settings → SlotChange
-taken l s = record { number = 0; link = Link (index_at (place unused l)); place = place unused l; slot = in_use (stored s) }
+taken l s = record { number = 0; link = Some (index_at (place unused l)); place = place unused l; slot = in_use (stored s) }
 
 module _ (count : ℕ) (otherwise : Chosen) where
   abbrev asks : ℕ → Wanted → Inquiry
@@ -101,6 +101,6 @@ module _ (count : ℕ) (otherwise : Chosen) where
         go : (m : ℕ) → (m ≡ 0 → f ≡ found_in l unused none) → enabled (asks m Unused) f records s ≡ change_or (after m 6 (not (any unused l))) (taken l s) records
         go zero a = ap (λ (g : Found). enabled (asks 0 Unused) g records s) (a refl) ∙ found (any unused l) refl
         go (suc m) a =
-            ap (λ (n : ℕ). change_or (after n 6 (not f.any)) (record { number = 0; link = Link f.link.index; place = f.place; slot = in_use (stored s) }) records) (number_of (suc m) Unused)
-            ∙ nothing_changed m (not f.any) (record { number = 0; link = Link f.link.index; place = f.place; slot = in_use (stored s) }) records
+            ap (λ (n : ℕ). change_or (after n 6 (not f.any)) (record { number = 0; link = Some f.link.index; place = f.place; slot = in_use (stored s) }) records) (number_of (suc m) Unused)
+            ∙ nothing_changed m (not f.any) (record { number = 0; link = Some f.link.index; place = f.place; slot = in_use (stored s) }) records
             ∙ sym (nothing_changed m (not (any unused l)) (taken l s) records)

@@ -8,7 +8,7 @@ use mathlib.Core.List.{List, [], ◌∷◌, ◌++◌}
 use lib.Dec.{eqb, ltb, eqb-suc-zero, lit<}
 use lib.ListN.{length}
 use borrow.Author.Tests.{ne_eqb}
-use Rattle.replies.specs.Rules.{Rule, ◌if◌, ◌then◌, refusal, None}
+use Rattle.replies.specs.Rules.{Rule, ◌if◌, ◌then◌, refusal, NoneHolds}
 use Rattle.replies.proofs.Laws.Refusals.{Numbered, done-exactly, numbered_append, refusal_more, refusal-next, refusal_past}
 use Rattle.links.specs.declared.Head.{Head}
 use Rattle.links.specs.declared.Settings.{Settings}
@@ -75,10 +75,10 @@ slots-behind rs a b o d k = first_of rs (4 if a then 5 if (b || o) then 6 if d t
 
 -- values that refuse nothing may be asked once more
 module _ (values : List Rule) where
-  past : (rs more : List Rule) → None values → refusal ((values ++ rs) ++ more) ≡ refusal (rs ++ more)
+  past : (rs more : List Rule) → NoneHolds values → refusal ((values ++ rs) ++ more) ≡ refusal (rs ++ more)
   past rs more = go values
     where
-      go : (v : List Rule) → None v → refusal ((v ++ rs) ++ more) ≡ refusal (rs ++ more)
+      go : (v : List Rule) → NoneHolds v → refusal ((v ++ rs) ++ more) ≡ refusal (rs ++ more)
       go [] h = refl
       go (r ∷ v) h = rw h.0 (go v h.1)
 

@@ -1,4 +1,6 @@
 -- The steps put together over a run of records are the definition's reply.
+use Rattle.area.specs.declared.Area.{Area}
+use Rattle.std.specs.Prelude.{None, Option}
 use Prim.Native.Nat.{ℕ, zero, suc, ◌-◌}
 use native.Mathlib.Omega.{arith}
 use mathlib.Core.Path.{◌≡◌, refl, sym, ◌∙◌, ap}
@@ -13,8 +15,6 @@ use Rattle.links.specs.declared.Begun.{Begun}
 use Rattle.links.specs.declared.Head.{Head}
 use Rattle.links.specs.declared.HeadReply.{HeadReply}
 use Rattle.links.specs.declared.LinkIndex.{LinkIndex}
-use Rattle.links.specs.declared.PerhapsArea.{PerhapsArea}
-use Rattle.links.specs.declared.PerhapsLink.TheVariants.{Nothing}
 use Rattle.links.specs.declared.Reply.{Reply}
 use Rattle.links.specs.declared.Settings.{Settings}
 use Rattle.links.specs.declared.Slot.{Slot}
@@ -98,12 +98,12 @@ module _ (h : Head) (run : List Slot) where
   over_run r = record { number = r.number; link = r.link; table = over r.head run }
 
   -- a refusal leaves the head as it was
-  head_by_number : (call : TableCall) (new : Head) → record { number = 0; link = Nothing; table = over new run } ≡ answer 0 (over h run) call
+  head_by_number : (call : TableCall) (new : Head) → record { number = 0; link = None; table = over new run } ≡ answer 0 (over h run) call
       → (n : ℕ) → Left (answer n (over h run) call) (head_or n h new) run
   head_by_number call new right zero = right
   head_by_number call new right (suc n) = rw (eqb-suc-zero n)
 
-  pub area_together : (a : PerhapsArea) (r : HeadReply) → r ≡ area_set h (length run) a → Left (reply_over (over h run) (set_area a)) r run
+  pub area_together : (a : Option Area) (r : HeadReply) → r ≡ area_set h (length run) a → Left (reply_over (over h run) (set_area a)) r run
   unfolding reply_over rules_over rules link_after table_after
   area_together a r e = ap (λ (q : HeadReply). over_run q) e ∙ head_by_number (set_area a) _ refl _
 

@@ -1,4 +1,5 @@
 -- What the next hop of a request decides.
+use Rattle.std.specs.Prelude.{Option}
 use Prim.Native.Nat.{ℕ, zero, suc}
 use mathlib.Core.Path.{◌≡◌, refl, sym, ◌∙◌, ap}
 use mathlib.Core.Logic.{◌≢◌}
@@ -6,9 +7,8 @@ use mathlib.Core.Bool.{Bool, true, false}
 use mathlib.Core.List.{List, ◌++◌}
 use lib.ListN.{length}
 use Rattle.octets.proofs.Laws.Tests.{clash}
-use Rattle.replies.specs.Rules.{Rule, None, refusal}
+use Rattle.replies.specs.Rules.{Rule, NoneHolds, refusal}
 use Rattle.replies.proofs.Laws.Refusals.{none_right}
-use Rattle.ipv6.specs.declared.PerhapsMid.{PerhapsMid}
 use Rattle.ipv6.specs.Address.{multicast, good_hop}
 use Rattle.ipv6.specs.Packet.{destination, packet_rules}
 use Rattle.ipv6.proofs.Laws.Hops.{good_hops}
@@ -50,12 +50,12 @@ nobody-alike l q hop e f =
     same-down true e = many-down l (by_hop q hop) e ∙ sym (many-down l q e)
     same-down false one =
         one_down l (by_hop q hop) one
-        ∙ ap (λ (m : PerhapsMid). record { transport = 1; destination = to_neighbour m }) (neighbour-nobody l.interface q.neighbour hop f ∙ sym (neighbour-nobody l.interface q.neighbour q.next_hop e))
+        ∙ ap (λ (m : Option ℕ). record { transport = 1; destination = to_neighbour m }) (neighbour-nobody l.interface q.neighbour hop f ∙ sym (neighbour-nobody l.interface q.neighbour q.next_hop e))
         ∙ sym (one_down l q one)
 
 module _ (t : Table) (q : Request) where
   -- a request that is done has passed every rule
-  unresolved : (send t q).number ≡ 0 → None (resolve_rules (named t q.index) q)
+  unresolved : (send t q).number ≡ 0 → NoneHolds (resolve_rules (named t q.index) q)
   unfolding Demand1 request_rules link_rules
   unresolved e =
       let l = named t q.index in

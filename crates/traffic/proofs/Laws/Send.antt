@@ -1,4 +1,5 @@
 -- What a request answers, by the number that its rules give.
+use Rattle.std.specs.Prelude.{None, Option, Some}
 use Prim.Native.Nat.{ℕ, zero, suc, ◌<◌}
 use native.Mathlib.Omega.{arith}
 use mathlib.Core.Path.{◌≡◌, refl, sym, ◌∙◌, ap}
@@ -9,8 +10,6 @@ use lib.Dec.{eqb, lit<}
 use lib.ListN.{length}
 use Rattle.replies.specs.Rules.{◌if◌, ◌then◌, refusal}
 use Rattle.replies.proofs.Laws.Refusals.{Numbered, numbered_append, refusal-next, by_first, refusal_past}
-use Rattle.ipv6.specs.declared.PerhapsMid.{PerhapsMid}
-use Rattle.ipv6.specs.declared.PerhapsMid.TheVariants.{Mid as Known, Nothing as Unknown}
 use Rattle.ipv6.specs.Address.{multicast, good_hop}
 use Rattle.ipv6.specs.Packet.{destination, packet_rules}
 use Rattle.ipv6.specs.Identifier.{mid_of}
@@ -83,7 +82,7 @@ module _ (l : Named) (q : Request) where
     many-down = rw many
 
   module _ (one : multicast (destination q.packet) ≡ false) where
-    pub one_unknown : neighbour_of l.interface q.neighbour q.next_hop ≡ Unknown → sending (refusal (resolve_rules l q)) l q ≡ not_sent 12 q.packet
+    pub one_unknown : neighbour_of l.interface q.neighbour q.next_hop ≡ None → sending (refusal (resolve_rules l q)) l q ≡ not_sent 12 q.packet
     unfolding resolve_rules
     one_unknown e = rw (one, e)
 
@@ -91,18 +90,18 @@ module _ (l : Named) (q : Request) where
     unfolding down
     one_down = rw one
 
-    pub one-sent : (m : ℕ) → neighbour_of l.interface q.neighbour q.next_hop ≡ Known m
+    pub one-sent : (m : ℕ) → neighbour_of l.interface q.neighbour q.next_hop ≡ Some m
         → sending (refusal (resolve_rules l q)) l q ≡ record { number = 0; place = 0; transport = 1; destination = Mid m; class = q.class; length = length q.packet }
     unfolding resolve_rules
     one-sent m e = rw (one, e) (rw (one_down, e))
 
 -- the neighbour: derived, or given where the next hop is good
-module _ (f : Interface) (given : PerhapsMid) (hop : List ℕ) where
+module _ (f : Interface) (given : Option ℕ) (hop : List ℕ) where
   pub neighbour_derived : (eqb f.kind 3 || eqb f.flag 1) ≡ true → neighbour_of f given hop ≡ mid_of hop
   unfolding neighbour_of
   neighbour_derived e = rw e (go (good_hop hop) refl)
     where
-      go : (b : Bool) → good_hop hop ≡ b → cond b (mid_of hop) Unknown ≡ mid_of hop
+      go : (b : Bool) → good_hop hop ≡ b → cond b (mid_of hop) None ≡ mid_of hop
       go true g = refl
       go false g = sym (bad_hop_without_mid hop g)
 
@@ -110,7 +109,7 @@ module _ (f : Interface) (given : PerhapsMid) (hop : List ℕ) where
   unfolding neighbour_of
   neighbour-given e g = rw (e, g)
 
-  pub neighbour-nobody : good_hop hop ≡ false → neighbour_of f given hop ≡ Unknown
+  pub neighbour-nobody : good_hop hop ≡ false → neighbour_of f given hop ≡ None
   unfolding neighbour_of
   neighbour-nobody g = rw g
 

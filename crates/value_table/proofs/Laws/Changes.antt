@@ -6,7 +6,7 @@ use mathlib.Core.List.{List, [], ◌∷◌}
 use lib.Dec.{lit<}
 use lib.ListN.{length, get_or, set}
 use borrow.Author.Tests.{ltb-true, not-false}
-use Rattle.replies.specs.Rules.{refusal, None}
+use Rattle.replies.specs.Rules.{refusal, NoneHolds}
 use Rattle.replies.proofs.Laws.Refusals.{done-exactly, none_right}
 use Rattle.links.specs.declared.LinkIndex.{LinkIndex}
 use Rattle.links.specs.declared.Settings.{Settings}
@@ -46,7 +46,7 @@ fits t x (suc n) right = lit< tt
 
 -- the three calls
 module _ (t : Table) (all : length t.slots ≡ 64) where
-  none : (c : TableCall) → refusal (rules (counted t) c) ≡ 0 → None (rules (counted t) c)
+  none : (c : TableCall) → refusal (rules (counted t) c) ≡ 0 → NoneHolds (rules (counted t) c)
   none c e = (done-exactly (rules (counted t) c) (numbered (counted t) c)).0 e
 
   counts : (k : ℕ) → k < length (counted t) → k < 64

@@ -1,4 +1,5 @@
 -- What the steps of an enable and a disable decide over a table by value is the change of its definition.
+use Rattle.std.specs.Prelude.{None, Some}
 use Prim.Native.Nat.{ℕ, zero, suc, ◌<◌}
 use native.Mathlib.Omega.{arith}
 use mathlib.Core.Path.{◌≡◌, refl, sym, ◌∙◌, ap}
@@ -6,7 +7,6 @@ use mathlib.Core.Logic.{◌≢◌}
 use lib.Dec.{eqb-suc-zero}
 use Rattle.replies.specs.Rules.{refusal}
 use Rattle.links.specs.declared.LinkIndex.{LinkIndex}
-use Rattle.links.specs.declared.PerhapsLink.TheVariants.{Link, Nothing}
 use Rattle.links.specs.declared.Settings.{Settings}
 use Rattle.links.specs.declared.Table.{Table}
 use Rattle.links.specs.Settings.{stored}
@@ -60,8 +60,8 @@ module _ (t : Table) where
         let k = place unused (counted t) in
         ap (of_slot t) e
         ∙ by_number (by_rules 65 64 s (counted t)) (taken (counted t) s) refl
-        ∙ ap (λ (n : ℕ). change_or n t (slot_change t (Link (index_at k)) k (in_use (stored s)))) (sym by_all)
+        ∙ ap (λ (n : ℕ). change_or n t (slot_change t (Some (index_at k)) k (in_use (stored s)))) (sym by_all)
 
   pub disable_decided : (i : LinkIndex) → of_slot t (disabled 65 64 i (slot_at (counted t) i)) ≡ disable_change t i
   unfolding disable_change rules
-  disable_decided i = by_number (refusal (rules (counted t) (disable i))) (record { number = 0; link = Nothing; place = place_of i; slot = free }) refl
+  disable_decided i = by_number (refusal (rules (counted t) (disable i))) (record { number = 0; link = None; place = place_of i; slot = free }) refl

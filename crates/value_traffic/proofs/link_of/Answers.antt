@@ -1,8 +1,8 @@
 -- `value_traffic::link_of` meets its contract.
+use Rattle.std.specs.Prelude.{Some}
 use mathlib.Core.Path.{sym, ◌∙◌, ap}
 use borrow.Author.Rules.{rules}
 use Rattle.links.specs.declared.Chosen.{Chosen}
-use Rattle.links.specs.declared.PerhapsLink.TheVariants.{Link}
 use Rattle.traffic.specs.Arrives.{indication}
 use Rattle.traffic.proofs.Laws.Receive.{unchosen, chosen_on}
 use Rattle.value_traffic.proofs.link_of.Goals as goal
@@ -17,5 +17,5 @@ pub returns : goal.returns
 returns c =
     let args = c.args in
     let bad = c.choice_refusal-bad in
-    ap (λ (l : Chosen). record { number = 0; place = 0; link = Link l.index }) c.chosen_for-chosen.ensures
+    ap (λ (l : Chosen). record { number = 0; place = 0; link = Some l.index }) c.chosen_for-chosen.ensures
     ∙ sym (chosen_on args.t (indication args.h args.packet.now) (sym bad.ensures ∙ c.if-bad-ne-DONE.false))
