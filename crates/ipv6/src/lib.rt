@@ -8,13 +8,6 @@ ghost use Rattle.ipv6.specs.Address.{multicast, zeros_then, loopback, unspecifie
 ghost use Rattle.ipv6.specs.Packet.{source, destination, forbidden, packet_rules, fault_place};
 ghost use Rattle.ipv6.specs.Identifier.{flipped, identifier, link_local, mid_of};
 
-// A MID, where there is one to be had.
-#[derive(Clone, Copy)]
-pub enum Option<u64> {
-    Mid(u64),
-    Nothing,
-}
-
 pub fn is_multicast(address: &[u8]) -> bool
     ensures { result ≡ multicast address.now }
 {

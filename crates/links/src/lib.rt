@@ -61,13 +61,6 @@ pub struct Slot {
     pub settings: Settings,
 }
 
-// The area of a link, where it has one: a stop link has, the topological link has none, the dynamic link's may be set and cleared.
-#[derive(Clone, Copy)]
-pub enum Option<Area> {
-    Set(Area),
-    Unset,
-}
-
 // What a start is given.
 #[derive(Clone, Copy)]
 pub struct StartValues {
@@ -77,6 +70,7 @@ pub struct StartValues {
     pub dgvl: Interface,
 }
 
+// A table by value. The area is the dynamic link's, which may be set and cleared.
 #[derive(Clone, Copy)]
 pub struct Table {
     pub own: u64,
@@ -95,19 +89,6 @@ pub struct Head {
     pub tvl: Interface,
     pub dgvl: Interface,
     pub area: Option<Area>,
-}
-
-// A table over a run, where a start gave one.
-#[derive(Clone, Copy)]
-pub enum Option<Head> {
-    Given(Head),
-    Nothing,
-}
-
-#[derive(Clone, Copy)]
-pub enum Option<LinkIndex> {
-    Link(LinkIndex),
-    Nothing,
 }
 
 // The link that was chosen for a packet: all that a delivery asks of it, whatever the layout of the table.
