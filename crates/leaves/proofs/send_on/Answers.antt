@@ -62,20 +62,20 @@ returns-then-is_multicast c =
     let to = many-down link asked many in
     rw (c.sent-then-is_multicast.ensures, c.within_area-whole.ensures) (sym (here ∙ done ∙ rw (to, ne_eqb _ 0 c.if-index.false)))
 
-pub returns-in-Mid : goal.returns-in-Mid
-returns-in-Mid c =
+pub returns-in-Some : goal.returns-in-Some
+returns-in-Some c =
     let link = c.args.link in
     let asked = request c.args.h c.args.hop.now c.args.packet.now in
     let here = passed link asked _ (not-false _ c.if-not-link.false) c.packet_refusal-bad.ensures c.if-bad-ne-DONE.false in
     let one = multi c.args.packet.now _ _ c.destination_of-far_end.ensures c.is_multicast.ensures ∙ c.if-is_multicast.false in
-    let known = sym c.neighbour_of.ensures ∙ c.in-Mid.is in
-    c.sent-in-Mid.ensures ∙ sym (here ∙ one-sent link asked one _ known)
+    let known = sym c.neighbour_of.ensures ∙ c.in-Some.is in
+    c.sent-in-Some.ensures ∙ sym (here ∙ one-sent link asked one _ known)
 
-pub returns-in-Nothing : goal.returns-in-Nothing
-returns-in-Nothing c =
+pub returns-in-None : goal.returns-in-None
+returns-in-None c =
     let link = c.args.link in
     let asked = request c.args.h c.args.hop.now c.args.packet.now in
     let here = passed link asked _ (not-false _ c.if-not-link.false) c.packet_refusal-bad.ensures c.if-bad-ne-DONE.false in
     let one = multi c.args.packet.now _ _ c.destination_of-far_end.ensures c.is_multicast.ensures ∙ c.if-is_multicast.false in
-    let unknown = sym c.neighbour_of.ensures ∙ c.in-Nothing.is in
-    c.not_sent-in-Nothing.ensures ∙ sym (here ∙ one_unknown link asked one unknown)
+    let unknown = sym c.neighbour_of.ensures ∙ c.in-None.is in
+    c.not_sent-in-None.ensures ∙ sym (here ∙ one_unknown link asked one unknown)
