@@ -7,7 +7,7 @@ use Rattle.area.specs.Area.{same_numbers}
 use Rattle.area.specs.Ground.{area}
 use Rattle.prefixes.specs.declared.Prefixes.{Prefixes}
 use Rattle.prefixes.specs.Prefixes.{no_prefixes}
-use Rattle.links.specs.declared.Reply.{Reply}
+use Rattle.links.specs.Replies.{Reply}
 use Rattle.links.specs.declared.Settings.{Settings}
 use Rattle.links.specs.declared.Slot.{Slot}
 use Rattle.links.specs.declared.Table.{Table}
@@ -17,8 +17,7 @@ use Rattle.links.specs.Run.{over, fresh_head, reply_over, Started, start_over}
 use Rattle.ipv6.specs.Packet.{destination}
 use Rattle.traffic.specs.declared.Destination.{Destination}
 use Rattle.traffic.specs.declared.Destination.TheVariants.{Mid as ToMid, Within, Nothing as NoDestination}
-use Rattle.traffic.specs.declared.Reception.{Reception}
-use Rattle.traffic.specs.declared.Sending.{Sending}
+use Rattle.traffic.specs.Replies.{Reception, Sending}
 use Rattle.traffic.specs.Arrives.{receive}
 use Rattle.traffic.specs.Leaves.{send}
 use Rattle.traffic.specs.Run.{receive_over, send_over}

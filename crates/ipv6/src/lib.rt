@@ -3,10 +3,13 @@
 
 ghost use Rattle.std.specs.Prelude.{◌≡◌};
 ghost use Rattle.octets.specs.Runs.{same};
+ghost use Rattle.replies.specs.Numbers.{number_of, reply_number};
 ghost use Rattle.replies.specs.Rules.{refusal};
 ghost use Rattle.ipv6.specs.Address.{multicast, zeros_then, loopback, unspecified, good_hop};
 ghost use Rattle.ipv6.specs.Packet.{source, destination, forbidden, packet_rules, fault_place};
 ghost use Rattle.ipv6.specs.Identifier.{flipped, identifier, link_local, mid_of};
+
+use replies::Refusal;
 
 pub fn is_multicast(address: &[u8]) -> bool
     ensures { result ≡ multicast address.now }
@@ -67,43 +70,41 @@ fn is_forbidden(packet: &[u8]) -> bool
     is_multicast(from) | is_loopback(from) | is_unspecified(to) | is_loopback(to)
 }
 
-// The number that refuses a packet, in the order 9, 20, 21, 22, 10; 0 for a good one.
-pub fn packet_refusal(packet: &[u8]) -> u8
-    ensures { result ≡ refusal (packet_rules packet.now) }
+// Refuses a bad packet by the first that holds of 9, 20, 21, 22, 10.
+pub fn check_packet(packet: &[u8]) -> Result<(), Refusal>
+    ensures { reply_number result ≡ refusal (packet_rules packet.now) }
 {
     if 1280 < packet.len() {
-        return replies::PACKET_TOO_LONG;
+        return Err(Refusal::PacketTooLong);
     }
     if packet.len() < 40 {
-        return replies::PACKET_SHORT;
+        return Err(Refusal::PacketShort);
     }
     // A good packet passes all three, and nearly every packet is good; so they are tested first, and told in their order.
     let wrong_version = packet[0] / 16 != 6;
     let wrong_length = octets::number16(packet, 4) as usize + 40 != packet.len();
     let forbidden = is_forbidden(packet);
     if wrong_version {
-        return replies::VERSION_NOT_6;
+        return Err(Refusal::VersionNot6);
     }
     if wrong_length {
-        return replies::LENGTH_FIELD_WRONG;
+        return Err(Refusal::LengthFieldWrong);
     }
     if forbidden {
-        return replies::ADDRESS_NOT_ALLOWED;
+        return Err(Refusal::AddressNotAllowed);
     }
-    replies::DONE
+    Ok(())
 }
 
-// The place in the packet that a reply of this number gives: where the fault stands, and 0 where none does.
-pub fn fault_place(number: u8, packet: &[u8]) -> usize
-    ensures { result ≡ fault_place number packet.now }
+// The place in the packet that a refusal gives: where the fault stands, and 0 where none does.
+pub fn fault_place(refusal: Refusal, packet: &[u8]) -> usize
+    ensures { result ≡ fault_place (number_of refusal) packet.now }
 {
-    if number == replies::PACKET_SHORT {
-        return packet.len();
+    match refusal {
+        Refusal::PacketShort => packet.len(),
+        Refusal::LengthFieldWrong => 4,
+        _ => 0,
     }
-    if number == replies::LENGTH_FIELD_WRONG {
-        return 4;
-    }
-    0
 }
 
 fn flip(b: u8) -> u8

@@ -1,11 +1,12 @@
 -- RULES, A table over a run: a head by value and a lent run of link records, one per stop index. The calls on it are those on every
 -- table, with one refusal more: 23, a run that is too short.
-use Rattle.std.specs.Prelude.{ℕ, zero, suc, ◌-◌, ◌≡◌, Bool, not, List, [], ◌++◌, ltb, length, None, Option, Some}
+use Rattle.std.specs.Prelude.{ℕ, zero, suc, ◌-◌, ◌≡◌, Bool, not, List, [], ◌++◌, ltb, length, None, Option, Some, Result}
 use Rattle.replies.specs.Rules.{Rule, ◌if◌, ◌then◌, refusal}
-use Rattle.links.specs.declared.Begun.{Begun}
+use Rattle.replies.specs.declared.Refusal.{Refusal}
+use Rattle.replies.specs.Numbers.{reply_number}
 use Rattle.links.specs.declared.Head.{Head}
 use Rattle.links.specs.declared.HeadReply.{HeadReply}
-use Rattle.links.specs.declared.Reply.{Reply}
+use Rattle.links.specs.Replies.{Reply, link_given, head_given}
 use Rattle.links.specs.declared.Slot.{Slot}
 use Rattle.links.specs.declared.StartValues.{StartValues}
 use Rattle.links.specs.declared.Table.{Table}
@@ -40,7 +41,7 @@ reply_over t c = answer (refusal (rules_over t c)) t c
 
 -- what a call promises of its reply and of the run that it leaves: together they are the definition's reply, table and all
 abbrev pub Left : Reply → HeadReply → List Slot → Type 0
-Left q r run = record { number = r.number; link = r.link; table = over r.head run } ≡ q
+Left q r run = record { number = reply_number r.answer; link = link_given r.answer; table = over r.head run } ≡ q
 
 -- A start over a run
 
@@ -56,8 +57,8 @@ pub record Started : Type 0 where
   pub run : List Slot
 
 -- what a start promises, likewise
-abbrev pub Begins : Started → Begun → List Slot → Type 0
-Begins q r run = record { number = r.number; head = r.head; run = run } ≡ q
+abbrev pub Begins : Started → Result Head Refusal → List Slot → Type 0
+Begins q r run = record { number = reply_number r; head = head_given r; run = run } ≡ q
 
 -- run-start: maximum - 1 records are cleared, and the rest stays; a refused start changes nothing and gives no table
 abbrev pub begin_over : ℕ → List Slot → StartValues → Started

@@ -11,6 +11,7 @@ ghost use Rattle.links.specs.Calls.{fresh, plain_start};
 
 use area::Area;
 use prefixes::Prefixes;
+use replies::Refusal;
 
 // The index of a virtual link. The two fixed links bear index 0 and 1 always.
 #[derive(Clone, Copy)]
@@ -166,26 +167,16 @@ impl Table {
     }
 }
 
-// What a call on the table answers: its number, the link if one is given, and the table after it.
+// What a call on the table answers: the link if it gives one, or why it is refused; and the table after it.
 #[derive(Clone, Copy)]
-pub struct Reply {
-    pub number: u8,
-    pub link: Option<LinkIndex>,
+pub struct TableReply {
+    pub answer: Result<Option<LinkIndex>, Refusal>,
     pub table: Table,
 }
 
-// What a call on a table over a run answers: its number, the link if one is given, and the head after it. The records after it are in
-// the run.
+// What a call on a table over a run answers, with the head after it. The records after it are in the run.
 #[derive(Clone, Copy)]
 pub struct HeadReply {
-    pub number: u8,
-    pub link: Option<LinkIndex>,
+    pub answer: Result<Option<LinkIndex>, Refusal>,
     pub head: Head,
-}
-
-// What a start over a run answers: its number, and the head of the table, or none where it is refused.
-#[derive(Clone, Copy)]
-pub struct Begun {
-    pub number: u8,
-    pub head: Option<Head>,
 }

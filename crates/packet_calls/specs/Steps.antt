@@ -17,8 +17,7 @@ use Rattle.search.specs.declared.inquiry.Inquiry.{Inquiry}
 use Rattle.search.specs.Inquiry.{asking}
 use Rattle.traffic.specs.declared.Destination.{Destination}
 use Rattle.traffic.specs.declared.Destination.TheVariants.{Mid, Within, Nothing}
-use Rattle.traffic.specs.declared.InterfaceAddress.{InterfaceAddress}
-use Rattle.traffic.specs.declared.Sending.{Sending}
+use Rattle.traffic.specs.Replies.{InterfaceAddress, Sending}
 use Rattle.traffic.specs.Arrives.{Indication, Received, indication_values, content_rules, unless, deliver_on}
 use Rattle.traffic.specs.Leaves.{Request, request_values, link_rules, sending, interface_rules, answer_interface}
 

@@ -12,11 +12,10 @@ use Rattle.links.specs.declared.Table.{Table}
 use Rattle.links.specs.Settings.{mid_ok, reaches}
 use Rattle.links.specs.Slots.{tvl_index, dgvl_index, index_at, free, counted, any, place, with}
 use Rattle.frames.specs.Frame.{frame}
-use Rattle.traffic.specs.declared.Choice.{Choice}
+use Rattle.traffic.specs.Replies.{Choice, Reception}
 use Rattle.traffic.specs.declared.Destination.{Destination}
 use Rattle.traffic.specs.declared.Destination.TheVariants.{Mid, Within, Nothing}
 use Rattle.traffic.specs.declared.IndicationHead.{IndicationHead}
-use Rattle.traffic.specs.declared.Reception.{Reception}
 
 pub record Indication : Type 0 where
   pub transport : ℕ

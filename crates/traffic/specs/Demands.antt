@@ -11,7 +11,7 @@ use Rattle.links.specs.Slots.{Has, counted}
 use Rattle.links.specs.Index.{enabled_at, named}
 use Rattle.links.specs.Reached.{Reached}
 use Rattle.links.specs.Demands.{TableDemand1, TableDemand2}
-use Rattle.traffic.specs.declared.Sending.{Sending}
+use Rattle.traffic.specs.Replies.{Sending}
 use Rattle.traffic.specs.Arrives.{Indication, Received, Link, topological, dynamic, stop, choose, kind_of, frame_or_packet, choice_rules, choice_of, indication_rules, receive}
 use Rattle.traffic.specs.Leaves.{Request, request_rules, down, send, interface_rules, interface}
 use Rattle.traffic.specs.Run.{indication_rules_over, receive_over, request_rules_over, send_over, interface_rules_over, interface_over}

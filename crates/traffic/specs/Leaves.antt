@@ -14,9 +14,8 @@ use Rattle.links.specs.Slots.{tvl_index, dgvl_index, counted}
 use Rattle.links.specs.Index.{enabled_at, named}
 use Rattle.traffic.specs.declared.Destination.{Destination}
 use Rattle.traffic.specs.declared.Destination.TheVariants.{Mid, Within, Nothing}
-use Rattle.traffic.specs.declared.InterfaceAddress.{InterfaceAddress}
+use Rattle.traffic.specs.Replies.{InterfaceAddress, Sending}
 use Rattle.traffic.specs.declared.RequestHead.{RequestHead}
-use Rattle.traffic.specs.declared.Sending.{Sending}
 
 pub record Request : Type 0 where
   pub index : LinkIndex

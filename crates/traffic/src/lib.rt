@@ -39,40 +39,34 @@ pub struct RequestHead {
     pub neighbour: Option<u64>,
 }
 
-// What an indication answers; what is written stands in the lent buffer. The place is that of a fault in its packet.
+// Why a call with a packet is refused, and the place of the fault in the packet: 0 where none is bad.
 #[derive(Clone, Copy)]
-pub struct Reception {
-    pub number: u8,
+pub struct Fault {
+    pub refusal: Refusal,
     pub place: usize,
-    pub link: Option<LinkIndex>,
+}
+
+// What an indication gives a link; what is written stands in the lent buffer.
+#[derive(Clone, Copy)]
+pub struct Delivery {
+    pub link: LinkIndex,
     pub length: usize,
     pub source: u64,
     pub class: u8,
 }
 
-// What the question for the link of an indication answers, where no buffer is lent.
+// What a request sends down to GeoNetworking with its packet.
 #[derive(Clone, Copy)]
-pub struct Choice {
-    pub number: u8,
-    pub place: usize,
-    pub link: Option<LinkIndex>,
-}
-
-// What a request answers: what goes down to GeoNetworking with its packet.
-#[derive(Clone, Copy)]
-pub struct Sending {
-    pub number: u8,
-    pub place: usize,
+pub struct Sent {
     pub transport: u8,
     pub destination: Destination,
     pub class: u8,
     pub length: usize,
 }
 
-// What the question for the interface address of a link answers.
+// The interface address of a link, and the MID that it is built from.
 #[derive(Clone, Copy)]
-pub struct InterfaceAddress {
-    pub number: u8,
+pub struct OwnAddress {
     pub mid: u64,
     pub address: [u8; 16],
 }

@@ -4,7 +4,7 @@ use mathlib.Core.Path.{◌≡◌, sym, ◌∙◌, ap}
 use lib.ListN.{length}
 use borrow.Author.Rules.{rules}
 use Rattle.frames.proofs.Laws.Put.{put_all, put_length_lem}
-use Rattle.traffic.specs.declared.Reception.{Reception}
+use Rattle.traffic.specs.Replies.{Reception}
 use Rattle.traffic.specs.Arrives.{Received, indication, frame_or_packet, deliver_as}
 use Rattle.traffic.proofs.Laws.Receive.{delivered_short, delivered, room-enough, room_for}
 use Rattle.arrives.proofs.deliver.Goals as goal

@@ -15,7 +15,7 @@ use Rattle.replies.proofs.Laws.Refusals.{Numbered, done-exactly, none_right, exa
 use Rattle.prefixes.proofs.Laws.Listed.{listed_kept, kept-blank}
 use Rattle.links.specs.declared.Head.{Head}
 use Rattle.links.specs.declared.LinkIndex.{LinkIndex}
-use Rattle.links.specs.declared.Reply.{Reply}
+use Rattle.links.specs.Replies.{Reply}
 use Rattle.links.specs.declared.Settings.{Settings}
 use Rattle.links.specs.declared.Slot.{Slot}
 use Rattle.links.specs.declared.StartValues.{StartValues}

@@ -10,7 +10,7 @@ use borrow.Author.Tests.{le-ltb}
 use Rattle.replies.specs.Rules.{Rule, ◌if◌, ◌then◌, refusal}
 use Rattle.replies.specs.Promise.{DeterminesBoth}
 use Rattle.replies.proofs.Laws.Refusals.{Numbered, numbered_append, passed_over, refusal-again}
-use Rattle.links.specs.declared.Reply.{Reply}
+use Rattle.links.specs.Replies.{Reply}
 use Rattle.links.specs.declared.Slot.{Slot}
 use Rattle.links.specs.declared.StartValues.{StartValues}
 use Rattle.links.specs.declared.Table.{Table}

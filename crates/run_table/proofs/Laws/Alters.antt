@@ -5,7 +5,7 @@ use lib.ListN.{set}
 use Rattle.links.specs.declared.Slot.{Slot}
 use Rattle.links.specs.declared.Head.{Head}
 use Rattle.links.specs.declared.HeadReply.{HeadReply}
-use Rattle.links.specs.declared.Reply.{Reply}
+use Rattle.links.specs.Replies.{Reply}
 use Rattle.links.specs.Run.{over, Left}
 use Rattle.table_calls.specs.declared.SlotChange.{SlotChange}
 use Rattle.table_calls.specs.Steps.{head_reply}

@@ -15,7 +15,7 @@ use Rattle.links.specs.declared.Begun.{Begun}
 use Rattle.links.specs.declared.Head.{Head}
 use Rattle.links.specs.declared.HeadReply.{HeadReply}
 use Rattle.links.specs.declared.LinkIndex.{LinkIndex}
-use Rattle.links.specs.declared.Reply.{Reply}
+use Rattle.links.specs.Replies.{Reply}
 use Rattle.links.specs.declared.Settings.{Settings}
 use Rattle.links.specs.declared.Slot.{Slot}
 use Rattle.links.specs.declared.StartValues.{StartValues}

@@ -23,9 +23,7 @@ use Rattle.links.specs.Slots.{counted}
 use Rattle.links.specs.Index.{enabled_at, named}
 use Rattle.links.proofs.Laws.Demands.{table_demand_1, table_demand_2}
 use Rattle.links.proofs.Laws.Run.{reached_long}
-use Rattle.traffic.specs.declared.Choice.{Choice}
-use Rattle.traffic.specs.declared.InterfaceAddress.{InterfaceAddress}
-use Rattle.traffic.specs.declared.Sending.{Sending}
+use Rattle.traffic.specs.Replies.{Choice, InterfaceAddress, Sending}
 use Rattle.traffic.specs.Arrives.{Indication, Received, Link, topological, dynamic, stop, PerhapsStop, at, nowhere, stop_by, by_area, by_destination, by_source, failing, choose, kind_of, index_of, chosen_for, choice_rules, choice_or, choice_of, frame_or_packet, deliver, refuse, unless, indication_rules, receive}
 use Rattle.traffic.specs.Leaves.{Request, request_values, link_rules, request_rules, sending, send, interface_rules, answer_interface, interface_on, interface}
 use Rattle.traffic.specs.Run.{indication_rules_over, receive_over, request_rules_over, send_over, interface_rules_over, interface_over}

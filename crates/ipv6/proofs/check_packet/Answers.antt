@@ -1,4 +1,4 @@
--- `ipv6::packet_refusal` meets its contract.
+-- `ipv6::check_packet` meets its contract.
 use Prim.Native.Nat.{ℕ, ◌+◌, ◌≤◌}
 use native.Mathlib.Omega.{arith}
 use mathlib.Core.Path.{◌≡◌, refl}
@@ -9,7 +9,7 @@ use lib.ListN.{length}
 use borrow.Author.Tests.{lt-ltb, le-ltb, eq-eqb, ne_eqb}
 use Rattle.replies.specs.Rules.{refusal}
 use Rattle.ipv6.specs.Packet.{version, payload_length, forbidden, packet_rules}
-use Rattle.ipv6.proofs.packet_refusal.Goals as goal
+use Rattle.ipv6.proofs.check_packet.Goals as goal
 
 -- a packet that has a header and is not too long: version, length field and addresses decide, in this order
 in_order : (p : List ℕ) → length p ≤ 1280 → 40 ≤ length p

@@ -1,7 +1,7 @@
--- `links::checks::ground_refusal` meets its contract.
+-- `links::checks::check_ground` meets its contract.
 use borrow.Author.Rules.{rules}
 use Rattle.links.specs.Settings.{ground_rules}
-use Rattle.links.proofs.checks.ground_refusal.Goals as goal
+use Rattle.links.proofs.checks.check_ground.Goals as goal
 
 pub returns : goal.returns
 unfolding ground_rules
