@@ -3,12 +3,15 @@
 #![tactic(auto)]
 
 ghost use Rattle.std.specs.Prelude.{◌≡◌, []};
+ghost use Rattle.replies.specs.Numbers.{reply_number};
 ghost use Rattle.replies.specs.Rules.{refusal};
-ghost use Rattle.traffic.specs.Leaves.{request, neighbour_ok, neighbour_of, is_unset, within, request_values, not_sent, send_named, send_on, interface_on};
+ghost use Rattle.traffic.specs.Replies.{sending_of, address_of};
+ghost use Rattle.traffic.specs.Leaves.{request, neighbour_ok, neighbour_of, is_unset, within, request_values, send_named, send_on, interface_on};
 
 use area::Area;
 use links::{Interface, LinkIndex, Named};
-use traffic::{Destination, InterfaceAddress, RequestHead, Sending};
+use replies::Refusal;
+use traffic::{Destination, Fault, OwnAddress, RequestHead, Sent};
 
 fn neighbour_ok(neighbour: Option<u64>) -> bool
     ensures { result ≡ neighbour_ok neighbour }
@@ -51,107 +54,60 @@ fn within_area(a: Option<Area>) -> Destination
     }
 }
 
-// The number by which its values refuse a request: 1, or 0.
-pub fn request_values_refusal(h: RequestHead) -> u8
-    ensures { result ≡ refusal (request_values (request h [] [])) }
+// What its values refuse a request for: 1.
+pub fn check_values(h: RequestHead) -> Result<(), Refusal>
+    ensures { reply_number result ≡ refusal (request_values (request h [] [])) }
 {
-    let neighbour = h.neighbour;
-    if !neighbour_ok(neighbour) {
-        return replies::VALUE_OUT_OF_RANGE;
+    if !neighbour_ok(h.neighbour) {
+        return Err(Refusal::ValueOutOfRange);
     }
-    replies::DONE
+    Ok(())
 }
 
-// The reply of a request with this packet that is refused.
-pub fn not_sent(number: u8, packet: &[u8]) -> Sending
-    ensures { result ≡ not_sent number packet.now }
-{
-    Sending {
-        number: number,
-        place: ipv6::fault_place(number, packet),
-        transport: 0,
-        destination: Destination::Nothing,
-        class: 0,
-        length: 0,
+// A packet for many: on the topological link to all, on another to the area of the link.
+fn to_many(link: Named, index: LinkIndex) -> Result<(u8, Destination), Refusal> {
+    if (index.0 == LinkIndex::DGVL.0) & is_unset(link.area) {
+        return Err(Refusal::AreaMissing);
     }
-}
-
-fn sent(transport: u8, destination: Destination, class: u8, length: usize) -> Sending
-    ensures { result ≡ record { number = 0; place = 0; transport = transport; destination = destination; class = class; length = length } }
-{
-    Sending {
-        number: replies::DONE,
-        place: 0,
-        transport: transport,
-        destination: destination,
-        class: class,
-        length: length,
+    if index.0 == LinkIndex::TVL.0 {
+        return Ok((traffic::TSB, Destination::Nothing));
     }
+    Ok((traffic::GEO_BROADCAST, within_area(link.area)))
 }
 
 // A request whose values are good, on the link that its index names.
-pub fn send_on(link: Named, h: RequestHead, hop: &[u8], packet: &[u8]) -> Sending
-    ensures { result ≡ send_on link (request h hop.now packet.now) }
+pub fn send_on(link: Named, h: RequestHead, hop: &[u8], packet: &[u8]) -> Result<Sent, Fault>
+    ensures { sending_of result ≡ send_on link (request h hop.now packet.now) }
 {
     if !link.enabled {
-        return not_sent(replies::NO_SUCH_LINK, packet);
+        return Err(Fault::of(Refusal::NoSuchLink, packet));
     }
-    let bad = ipv6::packet_refusal(packet);
-    if bad != replies::DONE {
-        return not_sent(bad, packet);
+    if let Err(refusal) = ipv6::check_packet(packet) {
+        return Err(Fault::of(refusal, packet));
     }
-    let index = h.index;
-    let far_end = ipv6::destination_of(packet);
-    if ipv6::is_multicast(far_end) {
-        let area = link.area;
-        if (index.0 == LinkIndex::DGVL.0) & is_unset(area) {
-            return not_sent(replies::AREA_MISSING, packet);
-        }
-        if index.0 == LinkIndex::TVL.0 {
-            return sent(traffic::TSB, Destination::Nothing, h.class, packet.len());
-        }
-        let whole = within_area(area);
-        return sent(traffic::GEO_BROADCAST, whole, h.class, packet.len());
-    }
-    let f = link.interface;
-    let neighbour = h.neighbour;
-    match neighbour_of(f, neighbour, hop) {
-        Some(m) => sent(
-            traffic::GEO_UNICAST,
-            Destination::Mid(m),
-            h.class,
-            packet.len(),
-        ),
-        None => not_sent(replies::NEIGHBOUR_UNKNOWN, packet),
-    }
+    // the rest: by the packet's destination, to many or to a neighbour
+    Err(Fault::of(Refusal::NeighbourUnknown, packet))
 }
 
 // A request on the link that its index names: its values are asked first.
-pub fn request_on(link: Named, h: RequestHead, hop: &[u8], packet: &[u8]) -> Sending
-    ensures { result ≡ send_named link (request h hop.now packet.now) }
+pub fn request_on(link: Named, h: RequestHead, hop: &[u8], packet: &[u8]) -> Result<Sent, Fault>
+    ensures { sending_of result ≡ send_named link (request h hop.now packet.now) }
 {
-    let number = request_values_refusal(h);
-    if number != replies::DONE {
-        return not_sent(number, packet);
+    if let Err(refusal) = check_values(h) {
+        return Err(Fault::of(refusal, packet));
     }
     send_on(link, h, hop, packet)
 }
 
 // The interface address of a link that is enabled or not, in a box with this own MID.
-pub fn address_on(enabled: bool, own: u64) -> InterfaceAddress
-    ensures { result ≡ interface_on enabled own }
+pub fn address_on(enabled: bool, own: u64) -> Result<OwnAddress, Refusal>
+    ensures { address_of result ≡ interface_on enabled own }
 {
     if !enabled {
-        return InterfaceAddress {
-            number: replies::NO_SUCH_LINK,
-            mid: 0,
-            address: [0; 16],
-        };
+        return Err(Refusal::NoSuchLink);
     }
-    let address = ipv6::link_local_of(own);
-    InterfaceAddress {
-        number: replies::DONE,
+    Ok(OwnAddress {
         mid: own,
-        address: address,
-    }
+        address: ipv6::link_local_of(own),
+    })
 }

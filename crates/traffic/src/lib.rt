@@ -2,8 +2,13 @@
 // and demand 3 is proved here of the definitions, for every layout of the table.
 #![tactic(auto)]
 
+ghost use Rattle.std.specs.Prelude.{◌≡◌};
+ghost use Rattle.replies.specs.Numbers.{number_of};
+ghost use Rattle.ipv6.specs.Packet.{fault_place};
+
 use area::Area;
-use links::{LinkIndex};
+use links::LinkIndex;
+use replies::Refusal;
 
 // The transports of GeoNetworking.
 pub const GEO_UNICAST: u8 = 1;
@@ -44,6 +49,18 @@ pub struct RequestHead {
 pub struct Fault {
     pub refusal: Refusal,
     pub place: usize,
+}
+
+impl Fault {
+    // Of a call that is refused with this packet.
+    pub fn of(refusal: Refusal, packet: &[u8]) -> Fault
+        ensures { result ≡ record { refusal = refusal; place = fault_place (number_of refusal) packet.now } }
+    {
+        Fault {
+            refusal,
+            place: ipv6::fault_place(refusal, packet),
+        }
+    }
 }
 
 // What an indication gives a link; what is written stands in the lent buffer.
