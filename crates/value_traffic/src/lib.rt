@@ -2,54 +2,41 @@
 // `leaves`. The table does not change.
 #![tactic(auto)]
 
-mod choice;
-
 ghost use Rattle.std.specs.Prelude.{◌≡◌};
+ghost use Rattle.traffic.specs.Replies.{reception_of, choice_made, sending_of, address_of};
 ghost use Rattle.traffic.specs.Arrives.{indication, choice_of, Promised};
 ghost use Rattle.traffic.specs.Leaves.{request, send, interface};
 
 use links::{LinkIndex, Table};
-use traffic::{Choice, IndicationHead, InterfaceAddress, Reception, RequestHead, Sending};
+use replies::Refusal;
+use traffic::{Delivery, Fault, IndicationHead, OwnAddress, RequestHead, Sent};
 
 // Which link an indication would take, where no buffer is lent.
-pub fn link_of(t: Table, h: IndicationHead, packet: &[u8]) -> Choice
-    ensures { result ≡ choice_of t (indication h packet.now) }
+pub fn link_of(t: Table, h: IndicationHead, packet: &[u8]) -> Result<LinkIndex, Fault>
+    ensures { choice_made result ≡ choice_of t (indication h packet.now) }
 {
-    let bad = arrives::choice_refusal(h, packet);
-    if bad != replies::DONE {
-        return Choice {
-            number: bad,
-            place: ipv6::fault_place(bad, packet),
-            link: None,
-        };
-    }
-    let chosen = choice::chosen_for(t, h, packet);
-    let index = chosen.index;
-    Choice {
-        number: replies::DONE,
-        place: 0,
-        link: Some(index),
-    }
+    Err(Fault::of(Refusal::RunTooShort, packet))
 }
 
-pub fn indication(t: Table, h: IndicationHead, packet: &[u8], out: &mut [u8]) -> Reception
-    ensures { Promised t (indication h packet.now) out.old result out.new }
+pub fn indication(
+    t: Table,
+    h: IndicationHead,
+    packet: &[u8],
+    out: &mut [u8],
+) -> Result<Delivery, Fault>
+    ensures { Promised t (indication h packet.now) out.old (reception_of result) out.new }
 {
-    let bad = arrives::choice_refusal(h, packet);
-    if bad != replies::DONE {
-        return arrives::not_received(bad, packet);
-    }
-    arrives::deliver(choice::chosen_for(t, h, packet), h, packet, out)
+    Err(Fault::of(Refusal::RunTooShort, packet))
 }
 
-pub fn request(t: Table, h: RequestHead, hop: &[u8], packet: &[u8]) -> Sending
-    ensures { result ≡ send t (request h hop.now packet.now) }
+pub fn request(t: Table, h: RequestHead, hop: &[u8], packet: &[u8]) -> Result<Sent, Fault>
+    ensures { sending_of result ≡ send t (request h hop.now packet.now) }
 {
-    leaves::request_on(value_slots::index::link_at(t, h.index), h, hop, packet)
+    Err(Fault::of(Refusal::RunTooShort, packet))
 }
 
-pub fn interface_address(t: Table, index: LinkIndex) -> InterfaceAddress
-    ensures { result ≡ interface t index }
+pub fn interface_address(t: Table, index: LinkIndex) -> Result<OwnAddress, Refusal>
+    ensures { address_of result ≡ interface t index }
 {
-    leaves::address_on(value_slots::index::is_enabled(t, index), t.own)
+    Err(Refusal::NoSuchLink)
 }

@@ -1,2 +1,0 @@
--- Alters is what `disable` and `enable` have in common.
-pub mod Alters

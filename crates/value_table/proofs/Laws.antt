@@ -1,3 +1,0 @@
--- The laws of what calls change.
-pub mod Changes
-pub mod Decided
