@@ -2,7 +2,6 @@
 use Rattle.std.specs.Prelude.{Err, Some}
 use mathlib.Core.Path.{◌≡◌, sym, ◌∙◌, ap}
 use lib.ListN.{length}
-use borrow.Author.Rules.{rules}
 use Rattle.frames.proofs.Laws.Put.{put_all, put_length_lem}
 use Rattle.traffic.specs.declared.Fault.{Fault}
 use Rattle.traffic.specs.Replies.{Reception, reception_of}

@@ -1,18 +1,17 @@
 -- What a request answers, by the number that its rules give.
-use Rattle.std.specs.Prelude.{None, Option, Some}
+use Rattle.std.specs.Prelude.{None, Option}
 use Prim.Native.Nat.{ℕ, zero, suc, ◌<◌}
 use native.Mathlib.Omega.{arith}
-use mathlib.Core.Path.{◌≡◌, refl, sym, ◌∙◌, ap}
-use mathlib.Core.Logic.{◌≢◌}
-use mathlib.Core.Bool.{Bool, true, false, cond, not, ◌&&◌, ◌||◌}
-use mathlib.Core.List.{List, [], ◌++◌}
+use mathlib.Core.Path.{◌≡◌, refl, sym, ap}
+use mathlib.Core.Bool.{Bool, true, false, cond, ◌||◌}
+use mathlib.Core.List.{List, ◌++◌}
 use lib.Dec.{eqb, lit<}
 use lib.ListN.{length}
-use Rattle.replies.specs.Rules.{◌if◌, ◌then◌, refusal}
+use Rattle.replies.specs.Rules.{refusal}
 use Rattle.replies.specs.declared.Refusal.{Refusal}
 use Rattle.replies.specs.Numbers.{number_of}
 use Rattle.replies.proofs.Laws.Numbers.{number_positive, first_refuses}
-use Rattle.replies.proofs.Laws.Refusals.{Numbered, numbered_append, refusal-next, by_first, refusal_past}
+use Rattle.replies.proofs.Laws.Refusals.{Numbered, numbered_append, refusal_past}
 use Rattle.ipv6.specs.Address.{multicast, good_hop}
 use Rattle.ipv6.specs.Packet.{destination, packet_rules}
 use Rattle.ipv6.specs.Identifier.{mid_of}
@@ -22,8 +21,8 @@ use Rattle.links.specs.declared.Interface.{Interface}
 use Rattle.links.specs.declared.Named.{Named}
 use Rattle.links.specs.declared.Table.{Table}
 use Rattle.links.specs.Index.{named}
-use Rattle.traffic.specs.declared.Destination.TheVariants.{Mid, Nothing}
-use Rattle.traffic.specs.Leaves.{Request, neighbour_of, within, to_neighbour, is_unset, request_values, resolve_rules, link_rules, request_rules, down, not_sent, sending, send, send_named, send_on, interface_rules}
+use Rattle.traffic.specs.declared.Destination.TheVariants.{Nothing}
+use Rattle.traffic.specs.Leaves.{Request, neighbour_of, within, to_neighbour, request_values, resolve_rules, link_rules, request_rules, down, not_sent, sending, send, send_named, send_on, interface_rules}
 
 pub values_numbered : (q : Request) → Numbered (request_values q)
 unfolding request_values
