@@ -1,10 +1,9 @@
 -- What the library's `position` finds is the first slot that passes.
-use Prim.Native.Nat.{ℕ, suc, ◌+◌}
+use Prim.Native.Nat.{suc, ◌+◌}
 use native.Mathlib.Omega.{arith}
-use mathlib.Core.Path.{◌≡◌, refl, sym, ap}
+use mathlib.Core.Path.{◌≡◌, refl}
 use mathlib.Core.Bool.{Bool, true, false, cond, not}
 use mathlib.Core.List.{List, [], ◌∷◌}
-use lib.ListN.{length}
 use Rattle.std.specs.List.{position, position_or_len}
 use Rattle.links.specs.declared.Slot.{Slot}
 use Rattle.links.specs.Slots.{place}
