@@ -38,25 +38,20 @@ pub fn slot_count(max: usize) -> usize
 pub fn find<Q: Question>(run: &[Slot], count: usize, asked: Q) -> Option<usize>
     ensures { result ≡ found_in (take count run.now) (Q.test asked) }
 {
-    let n = count.min(run.len());
-    for i in 0..n {
-        if asked.may_pass(&run[i]) && asked.passes(&run[i]) {
-            return Some(i);
-        }
-    }
-    None
+    run.iter()
+        .take(count)
+        .position(|x| asked.may_pass(x) && asked.passes(x))
 }
 
 // Whether one of the first `count` records is that of a link with a prefix that overlaps one of these.
 pub fn overlapping(run: &[Slot], count: usize, s: Prefixes) -> bool
     ensures { result ≡ any (with (λ x. overlapping x.prefixes s)) (take count run.now) }
 {
-    for k in 0..prefixes::MOST {
-        if k < s.count && find(run, count, Overlapping(prefixes::at(s, k))).is_some() {
-            return true;
-        }
-    }
-    false
+    (0..s.count.min(prefixes::MOST)).any(|k| find(
+        run,
+        count,
+        Overlapping(prefixes::at(s, k)),
+    ).is_some())
 }
 
 // The record of a link; a blank one for a fixed link and for an index that does not count.

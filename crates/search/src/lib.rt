@@ -3,7 +3,7 @@
 #![tactic(auto)]
 
 ghost use Rattle.std.specs.Prelude.{◌≡◌, true, false, Bool};
-ghost use Rattle.area.specs.Area.{normal};
+ghost use Rattle.area.specs.Area.{same_area};
 ghost use Rattle.links.specs.Slots.{unused, with};
 ghost use Rattle.links.specs.declared.Slot.{Slot};
 ghost use Rattle.search.specs.Search.{on_ground, overlapping};
@@ -45,12 +45,12 @@ impl Question for Unused {
 // A link whose area is the same ground. The normal form of the area is found once, and not for every slot.
 #[derive(Clone, Copy)]
 pub struct SameGround {
-    pub normal: Area,
+    normal: Area,
 }
 
 impl SameGround {
     pub fn of(area: Area) -> SameGround
-        ensures { result ≡ record { normal = normal area } }
+        ensures { ⟦<SameGround as Question>⟧.test result ≡ with (λ s. same_area s.area area) }
     {
         SameGround {
             normal: area::normal(area),
