@@ -101,7 +101,8 @@ fn disabled(run: &mut [Slot], head: Head, index: LinkIndex) -> Result<Option<Lin
     if index.0 < LinkIndex::FIRST_STOP.0 {
         return Err(Refusal::FixedLink);
     }
-    if !run_slots::slot_at(run, head.max, index).enabled {
+    let slot = run_slots::slot_at(run, head.max, index);
+    if !slot.enabled {
         return Err(Refusal::NoSuchLink);
     }
     let place = index.0 - LinkIndex::FIRST_STOP.0;

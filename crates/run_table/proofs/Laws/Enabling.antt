@@ -1,19 +1,23 @@
 -- An enable, where its values and the length of the run refuse nothing: what its ground, the enabled links and the unused slots do.
 use Rattle.std.specs.Prelude.{ℕ, ◌<◌, ◌≡◌, refl, Bool, true, false, cond, not, ◌||◌, List, [], ◌++◌, Option, Some, None, length, set, Ok, Err}
-use mathlib.Core.Path.{sym, ◌∙◌, subst}
+use mathlib.Core.Path.{sym, ◌∙◌, ap, subst}
 use borrow.Author.Tests.{ltb-true}
 use Rattle.links.proofs.Laws.Search.{any_place}
+use Rattle.std.proofs.Math.Bool.{or_comm}
+use Rattle.std.specs.Option.{is_some}
 use lib.Dec.{lit<}
 use Rattle.replies.specs.declared.Refusal.{Refusal}
 use Rattle.replies.specs.declared.Refusal.TheVariants.{NoIndexFree}
 use Rattle.replies.specs.Numbers.{number_of}
 use Rattle.replies.specs.Rules.{refusal, ◌if◌, ◌then◌}
 use Rattle.replies.proofs.Laws.Numbers.{first_refuses, next_decides}
+use Rattle.area.specs.Area.{same_area}
+use Rattle.prefixes.specs.Prefixes.{overlapping, overlap_within}
 use Rattle.links.specs.declared.Head.{Head}
 use Rattle.links.specs.declared.Settings.{Settings}
 use Rattle.links.specs.declared.Slot.{Slot}
-use Rattle.links.specs.Settings.{settings_values, ground_rules, settings_rules, stored}
-use Rattle.links.specs.Slots.{index_at, in_use, counted, any, place, unused}
+use Rattle.links.specs.Settings.{settings_values, ground_rules, settings_rules, same_ground, overlaps, overlaps_itself, stored}
+use Rattle.links.specs.Slots.{index_at, in_use, counted, any, place, unused, with}
 use Rattle.links.specs.Calls.{enable, slot_rules, rules, link_after, table_after}
 use Rattle.links.specs.Run.{over, too_short, reply_over, Left}
 use Rattle.links.proofs.Laws.Replies.{values_numbered, settings_numbered}
@@ -29,6 +33,22 @@ next_of_slots l s n apart e = next_decides (apart_rules l s) (6 if not (any unus
 first_of_slots : (l : List Slot) (s : Settings) (e : Refusal) → number_of e ≡ refusal (apart_rules l s) → number_of e ≡ refusal (slot_rules l s)
 unfolding slot_rules apart_rules
 first_of_slots l s e n = first_refuses (apart_rules l s) (6 if not (any unused l) then []) e n
+
+-- what was found of the area, and what is known of the prefixes, tell what the enabled links refuse
+pub ground_found : (l : List Slot) (s : Settings) (q : Slot → Bool) (o : Option ℕ) → q ≡ with (λ r. same_area r.area s.area) → o ≡ found_in l q
+    → is_some o ≡ any (with (λ r. same_ground r s)) l
+unfolding same_ground
+ground_found l s q o asked found = rw (found, asked) (go (any (with (λ r. same_area r.area s.area)) l))
+  where
+    go : (b : Bool) → is_some (cond b (Some (place (with (λ r. same_area r.area s.area)) l)) None) ≡ b
+    go true = refl
+    go false = refl
+
+pub links_refuse : (l : List Slot) (s : Settings) (used within others : Bool)
+    → used ≡ any (with (λ r. same_ground r s)) l → within ≡ overlap_within s.prefixes → others ≡ any (with (λ r. overlapping r.prefixes s.prefixes)) l
+    → refusal (4 if used then 5 if (within || others) then []) ≡ refusal (apart_rules l s)
+unfolding apart_rules overlaps overlaps_itself
+links_refuse l s used within others u w o = rw (← u, ← w, ← o) (ap (λ (b : Bool). refusal (4 if used then 5 if b then [])) (or_comm within others))
 
 -- whether a slot passes, and the place of the first that does
 none_found : (q : Slot → Bool) (l : List Slot) → found_in l q ≡ None → any q l ≡ false

@@ -19,12 +19,12 @@ unfolding rules
 returns-then-index c =
     by_own c.args.head c.args.run.now (disable c.args.index) c.in_ok-check_length.ensures FixedLink (rw (lt-ltb c.args.index.0 2 c.if-index.true) refl)
 
-pub returns-then-not-slot_at : goal.returns-then-not-slot_at
-returns-then-not-slot_at c =
+pub returns-then-not-slot : goal.returns-then-not-slot
+returns-then-not-slot c =
     let l = counted (over c.args.head c.args.run.now) in
     let stop = le-ltb c.args.index.0 2 c.if-index.false in
     by_own c.args.head c.args.run.now (disable c.args.index) c.in_ok-check_length.ensures NoSuchLink
-    (by_slot l c.args.index c.slot_at.result 7 c.slot_at.ensures (rw (stop, c.if-not-slot_at.true) refl))
+    (by_slot l c.args.index c.slot_at-slot.result 7 c.slot_at-slot.ensures (rw (stop, c.if-not-slot.true) refl))
 
 pub returns : goal.returns
 unfolding link_after table_after
@@ -33,4 +33,4 @@ returns c =
     let stop = le-ltb c.args.index.0 2 c.if-index.false in
     rw (c.store.ensures, c.blank_slot.ensures)
     (done c.args.head c.args.run.now (disable c.args.index) c.in_ok-check_length.ensures
-    (by_slot l c.args.index c.slot_at.result 0 c.slot_at.ensures (rw (stop, c.if-not-slot_at.false) refl)))
+    (by_slot l c.args.index c.slot_at-slot.result 0 c.slot_at-slot.ensures (rw (stop, c.if-not-slot.false) refl)))
