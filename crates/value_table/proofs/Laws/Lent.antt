@@ -5,6 +5,7 @@ use mathlib.Core.Path.{sym, ◌∙◌, ap}
 use Rattle.std.proofs.lemmas.List.{take_all}
 use borrow.Author.Tests.{le-ltb, leb-true, leb-false}
 use Rattle.replies.specs.Rules.{refusal}
+use Rattle.links.specs.declared.Head.{Head}
 use Rattle.links.specs.declared.HeadReply.{HeadReply}
 use Rattle.links.specs.declared.Slot.{Slot}
 use Rattle.links.specs.declared.Table.{Table}
@@ -56,10 +57,10 @@ module _ (t : Table) (all : length t.slots ≡ 64) where
   by_number zero (set_own m) = refl
   by_number (suc n) c = refl
 
-  pub answered : (c : TableCall) (r : HeadReply) (left : List Slot) → Left (reply_over lent c) r left
+  pub answered : (c : TableCall) (h : Head) (r : HeadReply) (left : List Slot) → h ≡ lent_head t → Left (reply_over (over h t.slots) c) r left
       → reply_of (replied (record { own = t.own; max = t.max; tvl = t.tvl; dgvl = t.dgvl; area = t.area; slots = left }) r) ≡ reply t c
   unfolding reply
-  answered c r left e =
-      ap with_rest (e ∙ as_every_table lent c enough)
+  answered c h r left is e =
+      ap with_rest (e ∙ ap (λ (k : Head). reply_over (over k t.slots) c) is ∙ as_every_table lent c enough)
       ∙ ap (λ (l : List Slot). with_rest (answer (refusal (rules l c)) lent c)) same_count
       ∙ by_number (refusal (rules (counted t) c)) c

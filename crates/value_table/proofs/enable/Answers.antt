@@ -6,5 +6,4 @@ use Rattle.value_table.proofs.enable.Goals as goal
 
 pub returns : goal.returns
 returns c =
-    rw c.replied.ensures
-    (answered c.args.t (omega arith) (enable c.args.s) c.enable-reply.result c.enable-reply.new.run (rw (← c.lent_head-head.ensures) c.enable-reply.ensures))
+    rw c.replied.ensures (answered c.args.t (omega arith) (enable c.args.s) c.lent_head-head.result c.enable-reply.result c.enable-reply.new.run c.lent_head-head.ensures c.enable-reply.ensures)

@@ -6,5 +6,4 @@ use Rattle.value_table.proofs.set_dgvl_area.Goals as goal
 
 pub returns : goal.returns
 returns c =
-    rw c.replied.ensures
-    (answered c.args.t (omega arith) (set_area c.args.a) c.set_dgvl_area-reply.result c.args.t.slots (rw (← c.lent_head.ensures) c.set_dgvl_area-reply.ensures))
+    rw c.replied.ensures (answered c.args.t (omega arith) (set_area c.args.a) c.lent_head.result c.set_dgvl_area-reply.result c.args.t.slots c.lent_head.ensures c.set_dgvl_area-reply.ensures)

@@ -6,5 +6,4 @@ use Rattle.value_table.proofs.set_own_mid.Goals as goal
 
 pub returns : goal.returns
 returns c =
-    rw c.replied.ensures
-    (answered c.args.t (omega arith) (set_own c.args.mid) c.set_own_mid-reply.result c.args.t.slots (rw (← c.lent_head.ensures) c.set_own_mid-reply.ensures))
+    rw c.replied.ensures (answered c.args.t (omega arith) (set_own c.args.mid) c.lent_head.result c.set_own_mid-reply.result c.args.t.slots c.lent_head.ensures c.set_own_mid-reply.ensures)
