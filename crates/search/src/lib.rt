@@ -17,13 +17,16 @@ pub trait Question: Copy {
     // which slots pass
     ghost test: { Self → Slot → Bool };
 
+    fn passes(self, x: &Slot) -> bool
+        ensures { result ≡ test self x.now };
+
     // Whether a slot may pass, by a look at its first numbers. A loop asks this of every slot, and the question itself of those few
     // that may.
     fn may_pass(self, x: &Slot) -> bool
-        ensures { test self x.now ≡ true → result ≡ true };
-
-    fn passes(self, x: &Slot) -> bool
-        ensures { result ≡ test self x.now };
+        ensures { test self x.now ≡ true → result ≡ true }
+    {
+        self.passes(x)
+    }
 }
 
 // A slot that is not enabled.
@@ -32,10 +35,6 @@ pub struct Unused;
 
 impl Question for Unused {
     ghost test = { λ q. unused };
-
-    fn may_pass(self, x: &Slot) -> bool {
-        !x.enabled
-    }
 
     fn passes(self, x: &Slot) -> bool {
         !x.enabled
@@ -61,12 +60,12 @@ impl SameGround {
 impl Question for SameGround {
     ghost test = { λ q. with (on_ground q.normal) };
 
-    fn may_pass(self, x: &Slot) -> bool {
-        x.enabled && x.settings.area.latitude == self.normal.latitude
-    }
-
     fn passes(self, x: &Slot) -> bool {
         x.enabled && area::has_normal(x.settings.area, self.normal)
+    }
+
+    fn may_pass(self, x: &Slot) -> bool {
+        x.enabled && x.settings.area.latitude == self.normal.latitude
     }
 }
 
@@ -77,11 +76,11 @@ pub struct Overlapping(pub Prefix);
 impl Question for Overlapping {
     ghost test = { λ q. with (overlapping q.0) };
 
-    fn may_pass(self, x: &Slot) -> bool {
-        x.enabled && prefixes::may_meet(x.settings.prefixes, self.0)
-    }
-
     fn passes(self, x: &Slot) -> bool {
         x.enabled && prefixes::meets(x.settings.prefixes, self.0)
+    }
+
+    fn may_pass(self, x: &Slot) -> bool {
+        x.enabled && prefixes::may_meet(x.settings.prefixes, self.0)
     }
 }

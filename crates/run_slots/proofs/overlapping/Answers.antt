@@ -12,6 +12,6 @@ returns c =
     let l = take c.args.count c.args.run.now in
     let s = c.args.s in
     any_from_yields_List (asked_at l s) _ _ _ c.any.ensures.ran
-    (YieldsList-from_range 0 c.min.result c.min.result (cc) (omega arith))
+    (YieldsList-from_range 0 c.min-listed.result c.min-listed.result (cc) (omega arith))
     (λ x b q k. search (rules, tests))
-    ∙ one_is_asked l s _ c.min.ensures
+    ∙ one_is_asked l s _ c.min-listed.ensures

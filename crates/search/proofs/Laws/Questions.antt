@@ -1,6 +1,6 @@
 -- What the questions ask, in the rules' words: for a ground, and for an address.
 use Prim.Native.Nat.{ℕ}
-use mathlib.Core.Path.{◌≡◌, refl, sym, ap}
+use mathlib.Core.Path.{◌≡◌, sym, ap}
 use mathlib.Core.Bool.{Bool, true, and-eq-true_iff}
 use mathlib.Core.List.{List}
 use Rattle.octets.proofs.Laws.Digits.{Below}
@@ -20,9 +20,9 @@ use Rattle.links.proofs.Laws.Settings.{reaches_as_overlap}
 use Rattle.search.specs.Search.{on_ground, overlapping}
 
 -- the links that have the normal form of an area are those of the same ground
-pub ground_asked : (a : Area) → ◌≡◌ {A = Slot → Bool} (with (on_ground (normal a))) (with (λ s. same_area s.area a))
+pub ground_asked : {n : Area} (a : Area) → n ≡ normal a → ◌≡◌ {A = Slot → Bool} (with (on_ground n)) (with (λ s. same_area s.area a))
 unfolding same_area
-ground_asked a = refl
+ground_asked a e = ap (λ (n : Area). with (on_ground n)) e
 
 -- the links with a prefix that overlaps an address alone are those that reach the address
 pub address_asked : (a : List ℕ) → Below 256 a → ◌≡◌ {A = Slot → Bool} (with (overlapping (of_address a))) (with (λ s. reaches s a))
