@@ -8,7 +8,7 @@ use lib.ListN.{length-take}
 use borrow.Author.Tests.{ne_eqb}
 use Rattle.octets.proofs.Laws.Digits.{Below, below_part}
 use Rattle.area.specs.declared.Area.{Area}
-use Rattle.area.specs.Area.{normal, same_area}
+use Rattle.area.specs.Area.{same_area}
 use Rattle.prefix.specs.declared.Prefix.{Prefix}
 use Rattle.prefix.specs.Prefix.{of_address}
 use Rattle.ipv6.specs.Packet.{source, destination}
@@ -18,7 +18,7 @@ use Rattle.links.specs.Settings.{reaches}
 use Rattle.links.specs.Slots.{dgvl_index, index_at, free, any, place, with}
 use Rattle.links.proofs.Laws.Counted.{enabled_below}
 use Rattle.links.proofs.Laws.Settings.{reaches_as_overlap}
-use Rattle.search.specs.Search.{on_ground, overlapping, found_in}
+use Rattle.search.specs.Search.{overlapping, found_in}
 use Rattle.traffic.specs.declared.Destination.{Destination}
 use Rattle.traffic.specs.declared.Destination.TheVariants.{Within}
 use Rattle.traffic.specs.Arrives.{Indication, Link, topological, dynamic, stop, PerhapsStop, at, nowhere, stop_by, is_area, by_area, by_destination, by_source, failing, choose, link_index}
@@ -63,8 +63,7 @@ module _ (l : List Slot) (x : Indication) where
       ∙ ap (λ (q : Slot → Bool). cond (any (with (overlapping to)) l) (Some (place (with (overlapping to)) l)) (found_in l q)) origin)
 
   module _ (e : (eqb x.transport 2 || eqb x.transport 3) ≡ true) where
-    pub by_ground : (a : Area) → x.destination ≡ Within a → found_in l (with (on_ground (normal a))) ≡ stop_place (choose l x)
-    unfolding same_area
+    pub by_ground : (a : Area) → x.destination ≡ Within a → found_in l (with (λ s. same_area s.area a)) ≡ stop_place (choose l x)
     by_ground a f =
         sym
         (ap stop_place (choose-area l x e)
