@@ -17,7 +17,7 @@ use Rattle.replay.proofs.Laws.Days.{few-lines, few}
 use Rattle.listing.specs.Text.{header, link_from, lines_from, joined, text_of}
 use Rattle.listing.specs.Room.{written_of}
 use Rattle.listing.proofs.Laws.Whole.{whole-text}
-use Rattle.record_calls.specs.Over.{answer_over, day_over}
+use Rattle.replay.specs.Over.{answer_over, day_over}
 use Rattle.daylist.specs.Listing.{lent, day_as, day_into, lines_of, lines_text, listing, Prints}
 
 link-back : (link : Option LinkIndex) → link_from (given link) (index_in link) ≡ link
