@@ -19,7 +19,7 @@ returns-then-overlap_within c =
     let l = take c.args.count c.args.run.now in
     let found = c.if-is_some.ensures ∙ ground_found l s _ c.find.result c.of.ensures c.find.ensures in
     elim c.then-overlap_within.branch [
-      then-overlap_within-via-then-overlap_within w ↦ links_refuse l s _ _ _ found (sym w.if-overlap_within.true ∙ c.overlap_within.ensures) refl
+      | then-overlap_within-via-then-overlap_within w ↦ links_refuse l s _ _ _ found (sym w.if-overlap_within.true ∙ c.overlap_within.ensures) refl
       | then-overlap_within-via-else-overlap_within+then-overlapping w ↦ links_refuse l s _ _ _ found (sym w.if-overlap_within.false ∙ c.overlap_within.ensures) (sym w.if-overlapping.true ∙ w.overlapping.ensures)
     ]
 
