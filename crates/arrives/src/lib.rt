@@ -16,6 +16,7 @@ use replies::Refusal;
 use traffic::{Delivery, Destination, Fault, IndicationHead};
 
 // What its values refuse an indication for: 1.
+#[tactic(auto, unfolding(traffic::specs::Arrives::indication_values))]
 pub fn check_values(h: IndicationHead) -> Result<(), Refusal>
     ensures { reply_number result ≡ refusal (indication_values (indication h [])) }
 {
@@ -26,6 +27,7 @@ pub fn check_values(h: IndicationHead) -> Result<(), Refusal>
 }
 
 // What its area and its packet refuse an indication for: 2, 9, 20, 21, 22, 10 in this order.
+#[tactic(auto, unfolding(traffic::specs::Arrives::content_rules))]
 pub fn check_content(h: IndicationHead, packet: &[u8]) -> Result<(), Refusal>
     ensures { reply_number result ≡ refusal (content_rules (indication h packet.now)) }
 {
@@ -36,6 +38,7 @@ pub fn check_content(h: IndicationHead, packet: &[u8]) -> Result<(), Refusal>
 }
 
 // Both: what refuses an indication before a link is chosen.
+#[tactic(auto, using(replies::proofs::Laws::Numbers::first_refuses, replies::proofs::Laws::Numbers::next_decides, traffic::proofs::Laws::Receive::values_numbered), unfolding(traffic::specs::Arrives::choice_rules, traffic::specs::Arrives::indication_values))]
 pub fn check(h: IndicationHead, packet: &[u8]) -> Result<(), Refusal>
     ensures { reply_number result ≡ refusal (choice_rules (indication h packet.now)) }
 {
@@ -48,18 +51,17 @@ fn mac_to(d: Destination) -> u64
 {
     match d {
         Destination::Mid(m) => m,
-        Destination::Within(_) => 0xffff_ffff_ffff,
-        Destination::Nothing => 0xffff_ffff_ffff,
+        Destination::Within(_) | Destination::Nothing => 0xffff_ffff_ffff,
     }
 }
 
 // What a link of this kind is given: a frame, or the packet alone.
+#[tactic(auto, unfolding(traffic::specs::Arrives::frame_or_packet))]
 fn write(kind: u8, h: IndicationHead, packet: &[u8], out: &mut [u8]) -> usize
     ensures { (result ≡ put_length (frame_or_packet kind (indication h packet.now)) out.old) × (out.new ≡ put (frame_or_packet kind (indication h packet.now)) out.old) }
 {
     if kind == links::ETHERNET {
-        let d = h.destination;
-        return frames::write_frame(out, mac_to(d), h.source, packet);
+        return frames::write_frame(out, mac_to(h.destination), h.source, packet);
     }
     frames::write_packet(out, packet)
 }

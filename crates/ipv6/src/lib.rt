@@ -11,21 +11,21 @@ ghost use Rattle.ipv6.specs.Identifier.{flipped, identifier, link_local, mid_of}
 
 use replies::Refusal;
 
+#[tactic(auto, unfolding(crate::specs::Address::multicast))]
 pub fn is_multicast(address: &[u8]) -> bool
     ensures { result ≡ multicast address.now }
 {
-    if address.len() == 0 {
-        return false;
-    }
-    address[0] == 0xff
+    address.first() == Some(&0xff)
 }
 
 // Fifteen zeros and this last byte.
 fn is_zeros_then(address: &[u8], last: u8) -> bool
     ensures { result ≡ same address.now (zeros_then last) }
 {
-    let whole = [0, 0, 0, 0, 0, 0, 0, 0, 0, 0, 0, 0, 0, 0, 0, last];
-    octets::equal(address, &whole)
+    octets::equal(
+        address,
+        &[0, 0, 0, 0, 0, 0, 0, 0, 0, 0, 0, 0, 0, 0, 0, last],
+    )
 }
 
 pub fn is_loopback(address: &[u8]) -> bool
@@ -41,6 +41,7 @@ pub fn is_unspecified(address: &[u8]) -> bool
 }
 
 // Whether a next hop can be a neighbour's address.
+#[tactic(auto, unfolding(crate::specs::Address::good_hop))]
 pub fn is_good_hop(address: &[u8]) -> bool
     ensures { result ≡ good_hop address.now }
 {
@@ -62,6 +63,7 @@ pub fn destination_of(packet: &[u8]) -> &[u8]
     octets::part(packet, 24, 16)
 }
 
+#[tactic(auto, unfolding(crate::specs::Packet::forbidden))]
 fn is_forbidden(packet: &[u8]) -> bool
     ensures { result ≡ forbidden packet.now }
 {
@@ -71,6 +73,7 @@ fn is_forbidden(packet: &[u8]) -> bool
 }
 
 // Refuses a bad packet by the first that holds of 9, 20, 21, 22, 10.
+#[tactic(auto, unfolding(crate::specs::Packet::packet_rules))]
 pub fn check_packet(packet: &[u8]) -> Result<(), Refusal>
     ensures { reply_number result ≡ refusal (packet_rules packet.now) }
 {
@@ -97,6 +100,7 @@ pub fn check_packet(packet: &[u8]) -> Result<(), Refusal>
 }
 
 // The place in the packet that a refusal gives: where the fault stands, and 0 where none does.
+#[tactic(auto, using(replies::proofs::Laws::Numbers::number_injective), unfolding(crate::specs::Packet::fault_place))]
 pub fn fault_place(refusal: Refusal, packet: &[u8]) -> usize
     ensures { result ≡ fault_place (number_of refusal) packet.now }
 {
@@ -107,6 +111,7 @@ pub fn fault_place(refusal: Refusal, packet: &[u8]) -> usize
     }
 }
 
+#[tactic(auto, unfolding(crate::specs::Identifier::flipped))]
 fn flip(b: u8) -> u8
     ensures { result ≡ flipped b }
 {
@@ -117,6 +122,7 @@ fn flip(b: u8) -> u8
 }
 
 // The interface identifier of a MID.
+#[tactic(auto, unfolding(crate::specs::Identifier::identifier, octets::specs::Digits::digits))]
 pub fn identifier_of(mid: u64) -> [u8; 8]
     ensures { result ≡ identifier mid }
 {
@@ -125,6 +131,7 @@ pub fn identifier_of(mid: u64) -> [u8; 8]
 }
 
 // The address of a MID within fe80::/64.
+#[tactic(auto, unfolding(crate::specs::Identifier::link_local, crate::specs::Identifier::identifier, octets::specs::Digits::digits))]
 pub fn link_local_of(mid: u64) -> [u8; 16]
     ensures { result ≡ link_local mid }
 {
@@ -135,6 +142,7 @@ pub fn link_local_of(mid: u64) -> [u8; 16]
 }
 
 // The MID from which an address was built, if it was. With FF FE in its place it is neither :: nor ::1, so these are not asked.
+#[tactic(auto, using(crate::proofs::Laws::Identifier::no_address, crate::proofs::Laws::Identifier::without_ff_fe, crate::proofs::Laws::Identifier::many_without_mid, crate::proofs::Laws::Identifier::with_ff_fe, crate::proofs::Laws::Identifier::mid_bytes))]
 pub fn mid_of(address: &[u8]) -> Option<u64>
     ensures { result ≡ mid_of address.now }
 {

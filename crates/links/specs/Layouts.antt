@@ -1,5 +1,5 @@
 -- RULES, A table over a run: which tables over a run calls reach, what a call touches of the run, and that both layouts answer alike.
-use Rattle.std.specs.Prelude.{ℕ, ◌+◌, ◌-◌, ◌≤◌, ◌≡◌, ◌≢◌, ◌↔◌, false, List, [], ◌∷◌, length, get_or, Some}
+use Rattle.std.specs.Prelude.{ℕ, ◌+◌, ◌≤◌, ◌≡◌, ◌≢◌, ◌↔◌, false, List, [], ◌∷◌, length, get_or, Some}
 use Rattle.links.specs.declared.Head.{Head}
 use Rattle.links.specs.Replies.{Reply}
 use Rattle.links.specs.declared.Slot.{Slot}

@@ -12,7 +12,7 @@ use Rattle.links.specs.declared.StartValues.{StartValues}
 use Rattle.links.specs.declared.Table.{Table}
 use Rattle.links.specs.Settings.{mid_ok, settings_values}
 use Rattle.links.specs.Slots.{counted}
-use Rattle.links.specs.Calls.{TableCall, enable, disable, set_area, set_own, rules, answer, reply, start_values, cleared}
+use Rattle.links.specs.Calls.{TableCall, enable, disable, set_area, set_own, rules, answer, start_values, cleared}
 
 -- run-table: a head and a run are a table, whose slots are the records of the run
 abbrev pub over : Head → List Slot → Table

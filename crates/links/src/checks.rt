@@ -6,8 +6,8 @@ ghost use Rattle.replies.specs.Rules.{refusal, ◌if◌, ◌then◌};
 ghost use Rattle.links.specs.Settings.{mid_ok, interface_ok, retired, settings_values, ground_rules};
 ghost use Rattle.links.specs.Calls.{good_dynamic, start_values};
 
+use crate::{ETHERNET, Interface, LinkIndex, NBMA, POINT_TO_POINT, Settings, StartValues};
 use area::Area;
-use crate::{Interface, LinkIndex, Settings, StartValues};
 use replies::Refusal;
 
 pub fn mid_ok(mid: u64) -> bool
@@ -16,17 +16,18 @@ pub fn mid_ok(mid: u64) -> bool
     mid < 0x1_0000_0000_0000
 }
 
+#[tactic(auto, unfolding(crate::specs::Settings::interface_ok))]
 pub fn interface_ok(f: Interface) -> bool
     ensures { result ≡ interface_ok f }
 {
-    (crate::ETHERNET <= f.kind) & (f.kind <= crate::POINT_TO_POINT) & (f.flag <= 1)
+    (ETHERNET <= f.kind) & (f.kind <= POINT_TO_POINT) & (f.flag <= 1)
 }
 
 // Whether no link can be started or enabled with this kind any more.
 pub fn retired(f: Interface) -> bool
     ensures { result ≡ retired f }
 {
-    f.kind == crate::NBMA
+    f.kind == NBMA
 }
 
 pub fn dynamic_area_good(a: Option<Area>) -> bool
@@ -55,13 +56,11 @@ fn check_values(outside: bool, retired: bool) -> Result<(), Refusal>
 pub fn too_short(max: usize, records: usize) -> bool
     ensures { result ≡ ltb records (max - 1) }
 {
-    if max == 0 {
-        return false;
-    }
-    records < max - 1
+    records < max.saturating_sub(1)
 }
 
 // What the values of a start refuse it for, where `most` is the largest maximum: 1, 30 in this order.
+#[tactic(auto, unfolding(crate::specs::Calls::start_values))]
 pub fn check_start(most: usize, v: StartValues) -> Result<(), Refusal>
     ensures { reply_number result ≡ refusal (start_values most v) }
 {
@@ -74,14 +73,15 @@ pub fn check_start(most: usize, v: StartValues) -> Result<(), Refusal>
 }
 
 // What the values of an enable refuse it for: 1, 30 in this order.
+#[tactic(auto, unfolding(crate::specs::Settings::settings_values))]
 pub fn check_settings_values(s: Settings) -> Result<(), Refusal>
     ensures { reply_number result ≡ refusal (settings_values s) }
 {
-    let f = s.interface;
-    check_values(!interface_ok(f), retired(f))
+    check_values(!interface_ok(s.interface), retired(s.interface))
 }
 
 // What area and prefixes refuse an enable for: 2, 29, 3 in this order.
+#[tactic(auto, unfolding(crate::specs::Settings::ground_rules))]
 pub fn check_ground(s: Settings) -> Result<(), Refusal>
     ensures { reply_number result ≡ refusal (ground_rules s) }
 {

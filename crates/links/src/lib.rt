@@ -14,7 +14,7 @@ use prefixes::Prefixes;
 use replies::Refusal;
 
 // The index of a virtual link. The two fixed links bear index 0 and 1 always.
-#[derive(Clone, Copy)]
+#[derive(Clone, Copy, PartialEq, Eq)]
 pub struct LinkIndex(pub usize);
 
 impl LinkIndex {
@@ -43,6 +43,7 @@ pub const MOST_OVER_A_RUN: usize = 4093;
 // A link's interface: its kind and its resolve flag.
 #[derive(Clone, Copy)]
 pub struct Interface {
+    // a number, since a kind outside the list is an input that 1 answers (table_demand_1; the clause of value_table::enable)
     pub kind: u8,
     pub flag: u8,
 }
@@ -119,15 +120,13 @@ pub fn blank_slot() -> Slot
         b: 0,
         angle: 0,
     };
-    let prefixes = prefixes::none();
-    let settings = Settings {
-        area: area,
-        interface: Interface { kind: 0, flag: 0 },
-        prefixes: prefixes,
-    };
     Slot {
         enabled: false,
-        settings: settings,
+        settings: Settings {
+            area,
+            interface: Interface { kind: 0, flag: 0 },
+            prefixes: prefixes::none(),
+        },
     }
 }
 
@@ -136,13 +135,11 @@ impl Table {
     pub fn fresh(v: StartValues) -> Self
         ensures { result ≡ fresh value_slots v }
     {
-        let tvl = v.tvl;
-        let dgvl = v.dgvl;
         Table {
             own: v.own,
             max: v.max,
-            tvl: tvl,
-            dgvl: dgvl,
+            tvl: v.tvl,
+            dgvl: v.dgvl,
             area: None,
             slots: [blank_slot(); SLOTS],
         }

@@ -2,7 +2,7 @@
 -- indication, request and interface address. The last three give back no table: they leave it as it is.
 use Rattle.std.specs.Prelude.{ℕ, ◌+◌, ◌≤◌, ◌≡◌, ◌≢◌, true, List, length, take, drop, None, Some}
 use Rattle.replies.specs.Rules.{Rule, Exact}
-use Rattle.ipv6.specs.Packet.{destination, Placed}
+use Rattle.ipv6.specs.Packet.{Placed}
 use Rattle.ipv6.specs.Identifier.{link_local}
 use Rattle.links.specs.declared.LinkIndex.{LinkIndex}
 use Rattle.links.specs.declared.Slot.{Slot}

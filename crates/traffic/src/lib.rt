@@ -30,6 +30,7 @@ pub enum Destination {
 // An indication but for its packet, which is lent beside it.
 #[derive(Clone, Copy)]
 pub struct IndicationHead {
+    // a number, since a transport outside the list is an input that 1 answers (right_sort; the clause of arrives::check_values)
     pub transport: u8,
     pub source: u64,
     pub class: u8,

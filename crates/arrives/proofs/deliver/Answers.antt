@@ -1,10 +1,10 @@
 -- `arrives::deliver` meets its contract.
-use Rattle.std.specs.Prelude.{Some}
+use Rattle.std.specs.Prelude.{Err, Some}
 use mathlib.Core.Path.{◌≡◌, sym, ◌∙◌, ap}
 use lib.ListN.{length}
-use borrow.Author.Rules.{rules}
 use Rattle.frames.proofs.Laws.Put.{put_all, put_length_lem}
-use Rattle.traffic.specs.Replies.{Reception}
+use Rattle.traffic.specs.declared.Fault.{Fault}
+use Rattle.traffic.specs.Replies.{Reception, reception_of}
 use Rattle.traffic.specs.Arrives.{Received, indication, frame_or_packet, deliver_as}
 use Rattle.traffic.proofs.Laws.Receive.{delivered_short, delivered, room-enough, room_for}
 use Rattle.arrives.proofs.deliver.Goals as goal
@@ -12,8 +12,10 @@ use Rattle.arrives.proofs.deliver.Goals as goal
 pub returns-then-out-packet : goal.returns-then-out-packet
 returns-then-out-packet c =
     let args = c.args in
-    let short = delivered_short args.link (indication args.h args.packet.now) args.out.now c.if-out-packet.true in
-    (c.not_received.ensures ∙ sym (ap (λ (r : Received). r.reply) short), sym (ap (λ (r : Received). r.buffer) short))
+    let short = delivered_short args.link (indication args.h args.packet.now) args.out.now c.if-out-packet.true in (
+      ap (λ (f : Fault). reception_of (Err f)) c.of.ensures ∙ sym (ap (λ (r : Received). r.reply) short),
+      sym (ap (λ (r : Received). r.buffer) short),
+    )
 
 pub returns : goal.returns
 returns c =

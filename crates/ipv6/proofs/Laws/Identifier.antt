@@ -25,9 +25,9 @@ end_spread a e =
     let few : length (drop 13 a) ≤ 3 = omega (arith, length-drop 13 a) in
     drop-drop 5 8 a ∙ sym (take_all 3 (drop 13 a) few) ∙ part_spread a 13 3 (omega arith)
 
-pub mid-bytes : (a : List ℕ) → length a ≡ 16 → mid_of_identifier (drop 8 a) ≡ big_endian (first_flipped (spread a 8 3 ++ spread a 13 3))
+pub mid_bytes : (a : List ℕ) → length a ≡ 16 → mid_of_identifier (drop 8 a) ≡ big_endian (first_flipped (spread a 8 3 ++ spread a 13 3))
 unfolding mid_of_identifier
-mid-bytes a e = rw (part_spread a 8 3 (omega arith), end_spread a e)
+mid_bytes a e = rw (part_spread a 8 3 (omega arith), end_spread a e)
 
 flip_flip : (b : ℕ) → flipped (flipped b) ≡ b
 unfolding flipped
@@ -151,7 +151,7 @@ module _ (a : List ℕ) (m : ℕ) (bytes : Below 256 a) (g : mid_of a ≡ Some m
   is_number =
       let known : mid_of a ≡ Some (mid_of_identifier (drop 8 a)) = given a has in
       let same : m ≡ mid_of_identifier (drop 8 a) = cc in
-      same ∙ mid-bytes a long
+      same ∙ mid_bytes a long
 
   pub mid_below : m < 2 ^ 48
   unfolding mac-bytes

@@ -67,6 +67,13 @@ pub refused_by : {A : Type 0} (r : Result A Refusal) (e : Refusal) → reply_num
 refused_by (Ok x) e n = absurd (number-not_0 e (sym n))
 refused_by (Err d) e n = ap Err (number_injective d e n)
 
+-- two replies with one number are equal, if what they give is
+pub same_reply : {A : Type 0} (r s : Result A Refusal) → reply_number r ≡ reply_number s → ((x y : A) → r ≡ Ok x → s ≡ Ok y → x ≡ y) → r ≡ s
+same_reply (Ok x) (Ok y) n given = ap Ok (given x y refl refl)
+same_reply (Ok x) (Err e) n given = absurd (number-not_0 e (sym n))
+same_reply (Err e) (Ok x) n given = absurd (number-not_0 e n)
+same_reply (Err e) (Err f) n given = ap Err (number_injective e f n)
+
 -- code asks one list of rules and then the next: what the first refuses, both refuse, and what it lets through, the next decides
 pub first_refuses : (rs more : List Rule) (e : Refusal) → number_of e ≡ refusal rs → number_of e ≡ refusal (rs ++ more)
 first_refuses rs more e n = by_first rs more (number_of e) n (number-not_0 e)
