@@ -31,46 +31,34 @@ pub fn check_length(run: &[Slot], max: usize) -> Result<(), Refusal>
 pub fn slot_count(max: usize) -> usize
     ensures { result ≡ max - 1 }
 {
-    if max == 0 { 0 } else { max - 1 }
+    max.saturating_sub(1)
 }
 
-// The one loop: the place of the first of the first `count` records that passes. A record behind these is never read.
+// The one search: the place of the first of the first `count` records that passes. A record behind these is never read.
 pub fn find<Q: Question>(run: &[Slot], count: usize, asked: Q) -> Option<usize>
     ensures { result ≡ found_in (take count run.now) (Q.test asked) }
 {
-    let n = count.min(run.len());
-    for i in 0..n {
-        if asked.may_pass(&run[i]) && asked.passes(&run[i]) {
-            return Some(i);
-        }
-    }
-    None
+    run.iter()
+        .take(count)
+        .position(|x| asked.may_pass(x) && asked.passes(x))
 }
 
 // Whether one of the first `count` records is that of a link with a prefix that overlaps one of these.
 pub fn overlapping(run: &[Slot], count: usize, s: Prefixes) -> bool
     ensures { result ≡ any (with (λ x. overlapping x.prefixes s)) (take count run.now) }
 {
-    for k in 0..prefixes::MOST {
-        if k < s.count && find(run, count, Overlapping(prefixes::at(s, k))).is_some() {
-            return true;
-        }
-    }
-    false
+    let listed = s.count.min(prefixes::MOST);
+    (0..listed).any(|k| find(run, count, Overlapping(prefixes::at(s, k))).is_some())
 }
 
 // The record of a link; a blank one for a fixed link and for an index that does not count.
 pub fn slot_at(run: &[Slot], max: usize, index: LinkIndex) -> Slot
     ensures { result ≡ slot_at (take (max - 1) run.now) index }
 {
-    if index.0 < LinkIndex::FIRST_STOP.0 {
-        return links::blank_slot();
+    match index.0.checked_sub(LinkIndex::FIRST_STOP.0) {
+        Some(place) if place < slot_count(max) && place < run.len() => run[place],
+        _ => links::blank_slot(),
     }
-    let place = index.0 - LinkIndex::FIRST_STOP.0;
-    if slot_count(max) <= place || run.len() <= place {
-        return links::blank_slot();
-    }
-    run[place]
 }
 
 // One record is stored; past the end nothing is.

@@ -3,7 +3,7 @@
 #![tactic(auto)]
 
 ghost use Rattle.std.specs.Prelude.{◌≡◌, true, false, Bool};
-ghost use Rattle.area.specs.Area.{normal};
+ghost use Rattle.area.specs.Area.{same_area};
 ghost use Rattle.links.specs.Slots.{unused, with};
 ghost use Rattle.links.specs.declared.Slot.{Slot};
 ghost use Rattle.search.specs.Search.{on_ground, overlapping};
@@ -17,13 +17,16 @@ pub trait Question: Copy {
     // which slots pass
     ghost test: { Self → Slot → Bool };
 
+    fn passes(self, x: &Slot) -> bool
+        ensures { result ≡ test self x.now };
+
     // Whether a slot may pass, by a look at its first numbers. A loop asks this of every slot, and the question itself of those few
     // that may.
     fn may_pass(self, x: &Slot) -> bool
-        ensures { test self x.now ≡ true → result ≡ true };
-
-    fn passes(self, x: &Slot) -> bool
-        ensures { result ≡ test self x.now };
+        ensures { test self x.now ≡ true → result ≡ true }
+    {
+        self.passes(x)
+    }
 }
 
 // A slot that is not enabled.
@@ -33,10 +36,6 @@ pub struct Unused;
 impl Question for Unused {
     ghost test = { λ q. unused };
 
-    fn may_pass(self, x: &Slot) -> bool {
-        !x.enabled
-    }
-
     fn passes(self, x: &Slot) -> bool {
         !x.enabled
     }
@@ -45,12 +44,12 @@ impl Question for Unused {
 // A link whose area is the same ground. The normal form of the area is found once, and not for every slot.
 #[derive(Clone, Copy)]
 pub struct SameGround {
-    pub normal: Area,
+    normal: Area,
 }
 
 impl SameGround {
     pub fn of(area: Area) -> SameGround
-        ensures { result ≡ record { normal = normal area } }
+        ensures { ⟦<SameGround as Question>⟧.test result ≡ with (λ s. same_area s.area area) }
     {
         SameGround {
             normal: area::normal(area),
@@ -61,12 +60,12 @@ impl SameGround {
 impl Question for SameGround {
     ghost test = { λ q. with (on_ground q.normal) };
 
-    fn may_pass(self, x: &Slot) -> bool {
-        x.enabled && x.settings.area.latitude == self.normal.latitude
-    }
-
     fn passes(self, x: &Slot) -> bool {
         x.enabled && area::has_normal(x.settings.area, self.normal)
+    }
+
+    fn may_pass(self, x: &Slot) -> bool {
+        x.enabled && x.settings.area.latitude == self.normal.latitude
     }
 }
 
@@ -77,11 +76,11 @@ pub struct Overlapping(pub Prefix);
 impl Question for Overlapping {
     ghost test = { λ q. with (overlapping q.0) };
 
-    fn may_pass(self, x: &Slot) -> bool {
-        x.enabled && prefixes::may_meet(x.settings.prefixes, self.0)
-    }
-
     fn passes(self, x: &Slot) -> bool {
         x.enabled && prefixes::meets(x.settings.prefixes, self.0)
+    }
+
+    fn may_pass(self, x: &Slot) -> bool {
+        x.enabled && prefixes::may_meet(x.settings.prefixes, self.0)
     }
 }

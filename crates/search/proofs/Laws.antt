@@ -1,0 +1,2 @@
+-- The laws of the questions.
+pub mod Questions
