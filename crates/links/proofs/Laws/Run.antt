@@ -28,7 +28,7 @@ use Rattle.links.specs.Run.{head_of, too_short, values_of, rules_over, reply_ove
 use Rattle.links.proofs.Laws.Replies.{values_numbered, numbered, start_numbered}
 use Rattle.links.proofs.Laws.Sound.{sound}
 
-calls-values_numbered : (c : TableCall) → Numbered (values_of c)
+pub calls-values_numbered : (c : TableCall) → Numbered (values_of c)
 calls-values_numbered (enable s) = values_numbered s
 calls-values_numbered (disable i) = tt
 calls-values_numbered (set_area a) = tt

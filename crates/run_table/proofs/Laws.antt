@@ -1,0 +1,3 @@
+-- The calls on a table over a run, refusal by refusal.
+pub mod Refused
+pub mod Enabling
