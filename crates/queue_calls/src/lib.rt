@@ -98,10 +98,7 @@ fn add(held: usize, queue: &mut [u8], packet: &[u8]) -> Added
     let digits = run.length;
     let number = add_refusal(held, queue, packet, digits);
     if number != DONE {
-        return Added {
-            number,
-            held,
-        };
+        return Added { number, held };
     }
     lay(queue, held, run, packet);
     Added {
