@@ -2,9 +2,9 @@
 #![tactic(auto)]
 
 ghost use Rattle.std.specs.Prelude.{◌≡◌};
-ghost use Rattle.area.specs.Area.{good_area, normal_longitude, described, is_round, normal, same_numbers, has_normal};
+ghost use Rattle.area.specs.Area.{good_area, normal_longitude, described, is_round, normal, has_normal};
 
-#[derive(Clone, Copy)]
+#[derive(Clone, Copy, PartialEq, Eq)]
 pub struct Area {
     pub shape: u8,
     pub latitude: i32,
@@ -18,10 +18,8 @@ pub fn good(x: Area) -> bool
     ensures { result ≡ good_area x }
 {
     (x.shape <= 2)
-        & (-900_000_000 <= x.latitude)
-        & (x.latitude <= 900_000_000)
-        & (-1_800_000_000 <= x.longitude)
-        & (x.longitude <= 1_800_000_000)
+        & (-900_000_000..=900_000_000).contains(&x.latitude)
+        & (-1_800_000_000..=1_800_000_000).contains(&x.longitude)
         & (x.angle <= 359)
         & (1 <= x.a)
         & ((x.shape == 0) | (1 <= x.b))
@@ -47,12 +45,12 @@ fn described(x: Area, shape: u8, a: u16, b: u16, angle: u16) -> Area
     ensures { result ≡ described x shape a b angle }
 {
     Area {
-        shape: shape,
-        latitude: x.latitude,
+        shape,
         longitude: normal_longitude(x.longitude),
-        a: a,
-        b: b,
-        angle: angle,
+        a,
+        b,
+        angle,
+        ..x
     }
 }
 
@@ -73,26 +71,9 @@ pub fn normal(x: Area) -> Area
     described(x, x.shape, x.b, x.a, (x.angle % 180 + 90) % 180)
 }
 
-fn same_numbers(x: Area, y: Area) -> bool
-    ensures { result ≡ same_numbers x y }
-{
-    (x.shape == y.shape)
-        & (x.latitude == y.latitude)
-        & (x.longitude == y.longitude)
-        & (x.a == y.a)
-        & (x.b == y.b)
-        & (x.angle == y.angle)
-}
-
 // A search asks for many areas, and most differ in their centre, which needs no normal form but for the ends: it stops there.
 pub fn has_normal(x: Area, n: Area) -> bool
     ensures { result ≡ has_normal x n }
 {
-    if x.latitude != n.latitude {
-        return false;
-    }
-    if normal_longitude(x.longitude) != n.longitude {
-        return false;
-    }
-    same_numbers(normal(x), n)
+    x.latitude == n.latitude && normal_longitude(x.longitude) == n.longitude && normal(x) == n
 }

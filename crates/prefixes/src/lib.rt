@@ -2,7 +2,7 @@
 // table takes 104 bytes so, and 136 with an array of prefixes.
 #![tactic(auto)]
 
-ghost use Rattle.std.specs.Prelude.{◌≡◌, true, cond, ◌&&◌, ◌<◌, ltb};
+ghost use Rattle.std.specs.Prelude.{◌≡◌, ◌<◌};
 ghost use Rattle.prefix.specs.Prefix.{overlap, good_prefix};
 ghost use Rattle.prefixes.specs.Prefixes.{place, too_many, good_prefixes, meets, may_meet, overlap_within, no_prefixes, listed_at, of_four, kept, single};
 
@@ -15,9 +15,9 @@ pub const MOST: u8 = 4;
 #[derive(Clone, Copy)]
 pub struct Prefixes {
     pub count: u8,
-    pub lens: [u8; 4],
-    pub highs: [u64; 4],
-    pub lows: [u64; 4],
+    pub lens: [u8; MOST as usize],
+    pub highs: [u64; MOST as usize],
+    pub lows: [u64; MOST as usize],
 }
 
 pub fn none() -> Prefixes
@@ -25,9 +25,9 @@ pub fn none() -> Prefixes
 {
     Prefixes {
         count: 0,
-        lens: [0; 4],
-        highs: [0; 4],
-        lows: [0; 4],
+        lens: [0; MOST as usize],
+        highs: [0; MOST as usize],
+        lows: [0; MOST as usize],
     }
 }
 
@@ -36,7 +36,7 @@ pub fn of_four(count: u8, a: Prefix, b: Prefix, c: Prefix, d: Prefix) -> Prefixe
     ensures { result ≡ of_four count a b c d }
 {
     Prefixes {
-        count: count,
+        count,
         lens: [a.len, b.len, c.len, d.len],
         highs: [a.high, b.high, c.high, d.high],
         lows: [a.low, b.low, c.low, d.low],
@@ -59,13 +59,10 @@ fn place(s: Prefixes, k: usize) -> Prefix
     requires { k < 4 }
     ensures { result ≡ place s k }
 {
-    let lens = s.lens;
-    let highs = s.highs;
-    let lows = s.lows;
     Prefix {
-        len: lens[k],
-        high: highs[k],
-        low: lows[k],
+        len: s.lens[k],
+        high: s.highs[k],
+        low: s.lows[k],
     }
 }
 
@@ -73,10 +70,7 @@ fn place(s: Prefixes, k: usize) -> Prefix
 pub fn at(s: Prefixes, k: u8) -> Prefix
     ensures { result ≡ listed_at s k }
 {
-    if s.count <= k {
-        return prefix::none();
-    }
-    if MOST <= k {
+    if s.count.min(MOST) <= k {
         return prefix::none();
     }
     place(s, k as usize)
@@ -88,46 +82,29 @@ pub fn too_many(s: Prefixes) -> bool
     MOST < s.count
 }
 
-// Whether what is listed at a place is good, and not none.
-fn good_at(s: Prefixes, k: u8) -> bool
-    requires { k < 4 }
-    ensures { result ≡ cond (ltb k s.count) (ltb 0 (place s k).len && good_prefix (place s k)) true }
-{
-    if k < s.count {
-        let p = place(s, k as usize);
-        return (0 < p.len) & prefix::good(p);
-    }
-    true
-}
-
 pub fn good(s: Prefixes) -> bool
     ensures { result ≡ good_prefixes s }
 {
-    good_at(s, 0) & good_at(s, 1) & good_at(s, 2) & good_at(s, 3)
-}
-
-// Whether what is listed at a place overlaps a prefix.
-fn meets_at(s: Prefixes, k: u8, p: Prefix) -> bool
-    requires { k < 4 }
-    ensures { result ≡ (ltb k s.count && overlap (place s k) p) }
-{
-    (k < s.count) && prefix::overlaps(place(s, k as usize), p)
+    for k in 0..s.count.min(MOST) {
+        let p = at(s, k);
+        let listable = (0 < p.len) & prefix::good(p);
+        if !listable {
+            return false;
+        }
+    }
+    true
 }
 
 // Whether one of them overlaps a prefix.
 pub fn meets(s: Prefixes, p: Prefix) -> bool
     ensures { result ≡ meets s p }
 {
-    if meets_at(s, 0, p) {
-        return true;
+    for k in 0..MOST {
+        if prefix::overlaps(at(s, k), p) {
+            return true;
+        }
     }
-    if meets_at(s, 1, p) {
-        return true;
-    }
-    if meets_at(s, 2, p) {
-        return true;
-    }
-    meets_at(s, 3, p)
+    false
 }
 
 // Whether one of them may overlap a prefix, by a look at the first place: a search goes past most links with it.
@@ -137,7 +114,7 @@ pub fn may_meet(s: Prefixes, p: Prefix) -> bool
     (1 < s.count) | prefix::may_overlap(place(s, 0), p)
 }
 
-// Whether one of them overlaps another.
+// Whether one of them overlaps another: six pairs by name, since two loops over the places are no shorter.
 pub fn overlap_within(s: Prefixes) -> bool
     ensures { result ≡ overlap_within s }
 {

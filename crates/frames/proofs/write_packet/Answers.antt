@@ -1,7 +1,6 @@
 -- `frames::write_packet` meets its contract.
 use mathlib.Core.Path.{refl}
 use borrow.Author.Tests.{lt-ltb, le-ltb}
-use borrow.Author.Rules.{rules}
 use Rattle.frames.specs.Frame.{put, put_length}
 use Rattle.frames.proofs.write_packet.Goals as goal
 
@@ -11,4 +10,4 @@ returns-then-out-packet c = rw (lt-ltb _ _ c.if-out-packet.true) (refl, refl)
 
 pub returns : goal.returns
 unfolding put put_length
-returns c = rw (le-ltb _ _ c.if-out-packet.false) c.put_packet.ensures
+returns c = rw (le-ltb _ _ c.if-out-packet.false) (refl, c.put_packet.ensures)

@@ -5,6 +5,7 @@ use native.Mathlib.Omega.{arith}
 use mathlib.Core.Path.{◌≡◌, refl, sym, ◌∙◌, ap, subst}
 use mathlib.Core.Bool.{Bool, true, false, ◌&&◌, and-eq-true_iff, and_assoc}
 use mathlib.Core.List.{List, [], ◌∷◌, ◌++◌, map}
+use Rattle.std.proofs.lemmas.List.{drop-replicate}
 use lib.Dec.{leb}
 use lib.ListN.{length, get_or, take, drop, replicate, length-take, length-drop, length-replicate, length-map}
 use lib.Seq.{take_all, drop-cons}
@@ -46,16 +47,11 @@ unfolding all_zero same
 all_zero-same [] = refl
 all_zero-same (x ∷ l) = rw (all_zero-same l)
 
-drop-replicate : (k n : ℕ) → drop {A = ℕ} k (replicate n 0) ≡ replicate (n - k) 0
-drop-replicate zero n = rw (sub-zero n)
-drop-replicate (suc k) zero = rw (zero-sub (suc k))
-drop-replicate (suc k) (suc n) = rw (suc-sub-suc n k) (drop-replicate k n)
-
 -- the end of a run is zero if it is the end of a run of as many zeros
 pub all_zero_end : (n k : ℕ) (l : List ℕ) → length l ≡ n → all_zero (drop k l) ≡ same (take n (drop k l)) (take n (drop k (replicate n 0)))
 all_zero_end n k l e =
     let left : length (drop k l) ≡ n - k = length-drop k l ∙ ap (λ (m : ℕ). m - k) e in
-    rw (take_all n (drop k l) (omega arith), drop-replicate k n, take_all {A = ℕ} n (replicate (n - k) 0) (omega (arith, length-replicate {A = ℕ} (n - k) 0)), ← left)
+    rw (take_all n (drop k l) (omega arith), drop-replicate {X = ℕ} k n 0, take_all {A = ℕ} n (replicate (n - k) 0) (omega (arith, length-replicate {A = ℕ} (n - k) 0)), ← left)
     (all_zero-same (drop k l))
 
 -- no more can be taken of a run than it has

@@ -1,8 +1,20 @@
 -- `octets::equal` meets its contract.
-use borrow.Author.Rules.{rules}
-use Rattle.octets.proofs.Laws.Tests.{alike}
-use Rattle.octets.proofs.Laws.Runs.{same_true, eq_same}
+use Prim.Native.Nat.{ℕ}
+use mathlib.Core.Path.{◌≡◌, refl, ap, ◌∙◌}
+use mathlib.Core.Bool.{◌&&◌}
+use mathlib.Core.List.{List, [], ◌∷◌}
+use lib.Dec.{eqb}
+use lib.Pointwise.{pointwise}
+use Rattle.octets.specs.Runs.{same}
 use Rattle.octets.proofs.equal.Goals as goal
 
+-- `same` is the library's test of slices
+pointwise-same : (xs ys : List ℕ) → pointwise eqb xs ys ≡ same xs ys
+unfolding same
+pointwise-same [] [] = refl
+pointwise-same [] (y ∷ ys) = refl
+pointwise-same (x ∷ xs) [] = refl
+pointwise-same (x ∷ xs) (y ∷ ys) = ap (λ t. eqb x y && t) (pointwise-same xs ys)
+
 pub returns : goal.returns
-returns c = alike _ _ (λ t. eq_same _ _ (c.same.ensures.0 t)) (λ t. c.same.ensures.1 (same_true _ _ t))
+returns c = c.eq.ensures ∙ pointwise-same _ _

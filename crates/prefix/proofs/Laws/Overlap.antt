@@ -1,5 +1,5 @@
 -- What two prefixes have to do with each other: all that the other crates know of `holds` and `overlap`.
-use Prim.Native.Nat.{ℕ, ◌≤◌, min}
+use Prim.Native.Nat.{ℕ, ◌≤◌, ◌<◌, min}
 use native.Mathlib.Nat.{le_total, min-le_left, min-le_right, min_comm, min-eq_left, lt_of_lt_of_le}
 use native.Mathlib.Omega.{arith}
 use mathlib.Core.Path.{◌≡◌, refl, sym, ◌∙◌, ap}
@@ -10,6 +10,7 @@ use lib.Dec.{eqb, leb, ltb}
 use lib.ListN.{length, take}
 use lib.Seq.{take-take}
 use borrow.Author.Tests.{le-leb, leb-true, lt-ltb, ltb-true, eqb-true}
+use Rattle.std.proofs.lemmas.Bool.Decides.{nat_tests}
 use Rattle.octets.specs.Digits.{bits}
 use Rattle.octets.specs.Runs.{same}
 use Rattle.octets.proofs.Laws.Tests.{alike}
@@ -67,6 +68,14 @@ overlap_shorter p q =
           (λ l. rw (shared_held p q l h.0.0 bits-same))
           (λ l. rw (shared_held q p l h.0.1 (turned p q bits-same)) (or-true (holds_prefix p q))),
     ))
+
+-- the same by the length of the shorter alone
+pub none_overlaps : (p q : Prefix) → min p.len q.len ≡ 0 → overlap p q ≡ false
+none_overlaps p q e = rw (overlap_shorter p q) (grind (arith, nat_tests))
+
+pub some_overlap : (p q : Prefix) → 0 < min p.len q.len
+    → overlap p q ≡ same (take (min p.len q.len) (bits (bytes_of p))) (take (min p.len q.len) (bits (bytes_of q)))
+some_overlap p q some = rw (overlap_shorter p q, lt-ltb 0 p.len (omega arith), lt-ltb 0 q.len (omega arith))
 
 -- two prefixes that hold one address overlap
 pub hold_overlap : (p q : Prefix) (a : List ℕ) → holds p a ≡ true → holds q a ≡ true → overlap p q ≡ true

@@ -5,4 +5,4 @@ use Rattle.prefix.proofs.good.Goals as goal
 
 pub returns : goal.returns
 unfolding good_prefix number
-returns c = rw (c.clear_after.ensures, c.numbers_overlap.ensures, c.numbers_overlap-2.ensures)
+returns c = rw (c.is_clear_behind.ensures, c.overlaps.ensures, c.overlaps-2.ensures)

@@ -6,4 +6,4 @@ use Rattle.prefix.proofs.holds_prefix.Goals as goal
 pub returns : goal.returns
 returns c =
     let args = c.args in
-    rw c.numbers_overlap.ensures (sym (held_as_overlap args.p args.q))
+    rw c.overlaps.ensures (sym (held_as_overlap args.p args.q))

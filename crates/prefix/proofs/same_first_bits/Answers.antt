@@ -18,9 +18,9 @@ pub returns-then-n-le64 : goal.returns-then-n-le64
 returns-then-n-le64 c =
     let a = c.args in
     let none : a.n - 64 ≡ 0 = omega arith in
-    let low : a.low < 2 ^ 64 = search rules in
-    let low2 : a.low2 < 2 ^ 64 = search rules in
-    rw (same_words a.n a.high a.low a.high2 a.low2 (search rules) low (search rules) low2, none, div-eq_of_lt low, div-eq_of_lt low2, and-true)
+    let low : a.p.low < 2 ^ 64 = search rules in
+    let low2 : a.q.low < 2 ^ 64 = search rules in
+    rw (same_words a.n a.p.high a.p.low a.q.high a.q.low (search rules) low (search rules) low2, none, div-eq_of_lt low, div-eq_of_lt low2, and-true)
 
 -- where the first word is asked for whole
 past : (n high low high2 low2 : ℕ) → 64 < n → high < 2 ^ 64 → low < 2 ^ 64 → high2 < 2 ^ 64 → low2 < 2 ^ 64
@@ -31,17 +31,17 @@ past n high low high2 low2 h f g f2 g2 =
     let rest : 64 - (n - 64) ≡ 128 - n = omega arith in
     rw (same_words n high low high2 low2 f g f2 g2, all, rest, div-one high, div-one high2)
 
-pub returns-then-high-high2 : goal.returns-then-high-high2
-returns-then-high-high2 c = rw (past c.args.n c.args.high c.args.low c.args.high2 c.args.low2 (omega arith) (search rules) (search rules) (search rules) (search rules), eq-eqb _ _ c.if-high-high2.true)
+pub returns-then-p-q : goal.returns-then-p-q
+returns-then-p-q c = rw (past c.args.n c.args.p.high c.args.p.low c.args.q.high c.args.q.low (omega arith) (search rules) (search rules) (search rules) (search rules), eq-eqb _ _ c.if-p-q.true)
 
-pub returns-else-high-high2 : goal.returns-else-high-high2
-returns-else-high-high2 c = rw (past c.args.n c.args.high c.args.low c.args.high2 c.args.low2 (omega arith) (search rules) (search rules) (search rules) (search rules), ne_eqb _ _ c.if-high-high2.false)
+pub returns-else-p-q : goal.returns-else-p-q
+returns-else-p-q c = rw (past c.args.n c.args.p.high c.args.p.low c.args.q.high c.args.q.low (omega arith) (search rules) (search rules) (search rules) (search rules), ne_eqb _ _ c.if-p-q.false)
 
-pub returns-then-high-high2-2 : goal.returns-then-high-high2-2
-returns-then-high-high2-2 c =
+pub returns-then-p-q-2 : goal.returns-then-p-q-2
+returns-then-p-q-2 c =
     let a = c.args in
     let all : 128 - a.n ≡ 0 = omega arith in
-    rw (past c.args.n c.args.high c.args.low c.args.high2 c.args.low2 (omega arith) (search rules) (search rules) (search rules) (search rules), eq-eqb _ _ c.if-high-high2-2.true, all, div-one a.low, div-one a.low2)
+    rw (past c.args.n c.args.p.high c.args.p.low c.args.q.high c.args.q.low (omega arith) (search rules) (search rules) (search rules) (search rules), eq-eqb _ _ c.if-p-q-2.true, all, div-one a.p.low, div-one a.q.low)
 
-pub returns-else-high-high2-2 : goal.returns-else-high-high2-2
-returns-else-high-high2-2 c = rw (past c.args.n c.args.high c.args.low c.args.high2 c.args.low2 (omega arith) (search rules) (search rules) (search rules) (search rules), ne_eqb _ _ c.if-high-high2-2.false)
+pub returns-else-p-q-2 : goal.returns-else-p-q-2
+returns-else-p-q-2 c = rw (past c.args.n c.args.p.high c.args.p.low c.args.q.high c.args.q.low (omega arith) (search rules) (search rules) (search rules) (search rules), ne_eqb _ _ c.if-p-q-2.false)

@@ -38,6 +38,14 @@ one-of_four q (suc (suc zero)) h e = rw (e, or-true (q 1)) (or-true (q 0))
 one-of_four q (suc (suc (suc zero))) h e = rw (e, or-true (q 2), or-true (q 1)) (or-true (q 0))
 one-of_four q (suc (suc (suc (suc k)))) h e = absurd (omega arith)
 
+-- one of four that fails is too
+pub fails-of_four : (q : ℕ → Bool) (k : ℕ) → k < 4 → q k ≡ false → (q 0 && q 1 && q 2 && q 3) ≡ false
+fails-of_four q zero h e = rw e
+fails-of_four q (suc zero) h e = rw (e, and-false (q 0))
+fails-of_four q (suc (suc zero)) h e = rw (e, and-false (q 0 && q 1))
+fails-of_four q (suc (suc (suc zero))) h e = rw (e, and-false (q 0 && q 1 && q 2))
+fails-of_four q (suc (suc (suc (suc k)))) h e = absurd (omega arith)
+
 -- none overlaps nothing
 pub overlap-none : (p : Prefix) → overlap p no_prefix ≡ false
 unfolding overlap
@@ -86,8 +94,8 @@ module _ (a b c d : Prefix) where
       → all_of q (first n) ≡ (cond i (q a) true && cond j (q b) true && cond k (q c) true && cond l (q d) true)
   unfolding all_of
   all_first q none = refl
-  all_first q one = simp (and-true, and_assoc)
-  all_first q two = simp (and-true, and_assoc)
+  all_first q one = simp and-true
+  all_first q two = simp and-true
   all_first q three = simp (and-true, and_assoc)
   all_first q four = simp (and-true, and_assoc)
   all_first q more = simp (and-true, and_assoc)

@@ -1,5 +1,4 @@
 -- `prefixes::may_meet` meets its contract.
-use borrow.Author.Rules.{rules}
 use Rattle.prefixes.specs.Prefixes.{may_meet}
 use Rattle.prefixes.proofs.may_meet.Goals as goal
 
