@@ -19,8 +19,7 @@ pub fn is_good(d: Destination) -> bool
     ensures { result ≡ good_destination d }
 {
     match d {
-        Destination::Mid(_) => true,
         Destination::Within(a) => area::good(a),
-        Destination::Nothing => true,
+        Destination::Mid(_) | Destination::Nothing => true,
     }
 }

@@ -1,35 +1,31 @@
 -- The calls that the rows make, on packets, areas and tables that are written out.
-use Rattle.std.specs.Prelude.{ℕ, ◌-◌, Bool, false, List, [], ◌∷◌, ◌++◌, ℤ, pos, neg_ℤ, take, drop, replicate}
+use Rattle.links.specs.declared.LinkIndex.{LinkIndex}
+use Rattle.std.specs.Prelude.{ℕ, ◌-◌, Bool, false, List, [], ◌∷◌, ◌++◌, ℤ, pos, neg_ℤ, take, drop, replicate, None, Option, Some}
 use Rattle.octets.specs.Digits.{digits}
 use Rattle.area.specs.declared.Area.{Area}
 use Rattle.area.specs.Area.{same_numbers}
 use Rattle.area.specs.Ground.{area}
 use Rattle.prefixes.specs.declared.Prefixes.{Prefixes}
 use Rattle.prefixes.specs.Prefixes.{no_prefixes}
-use Rattle.links.specs.declared.PerhapsLink.{PerhapsLink}
-use Rattle.links.specs.declared.PerhapsLink.TheVariants.{Link, Nothing}
-use Rattle.links.specs.declared.Reply.{Reply}
+use Rattle.links.specs.Replies.{Reply}
 use Rattle.links.specs.declared.Settings.{Settings}
 use Rattle.links.specs.declared.Slot.{Slot}
 use Rattle.links.specs.declared.Table.{Table}
 use Rattle.links.specs.Slots.{in_use}
 use Rattle.links.specs.Calls.{TableCall, enable, reply, start_by_value}
 use Rattle.links.specs.Run.{over, fresh_head, reply_over, Started, start_over}
-use Rattle.ipv6.specs.declared.PerhapsMid.{PerhapsMid}
-use Rattle.ipv6.specs.declared.PerhapsMid.TheVariants.{Mid, Nothing as NoMid}
 use Rattle.ipv6.specs.Packet.{destination}
 use Rattle.traffic.specs.declared.Destination.{Destination}
 use Rattle.traffic.specs.declared.Destination.TheVariants.{Mid as ToMid, Within, Nothing as NoDestination}
-use Rattle.traffic.specs.declared.Reception.{Reception}
-use Rattle.traffic.specs.declared.Sending.{Sending}
+use Rattle.traffic.specs.Replies.{Reception, Sending}
 use Rattle.traffic.specs.Arrives.{receive}
 use Rattle.traffic.specs.Leaves.{send}
 use Rattle.traffic.specs.Run.{receive_over, send_over}
 use Rattle.edge_rows.specs.Row.{Row, ◌are◌, says}
 
-abbrev pub mid_or_zero : PerhapsMid → ℕ
-mid_or_zero (Mid m) = m
-mid_or_zero NoMid = 0
+abbrev pub mid_or_zero : Option ℕ → ℕ
+mid_or_zero (Some m) = m
+mid_or_zero None = 0
 
 -- addresses: ::, ::1, ff02::1
 abbrev pub unspecified : List ℕ
@@ -89,7 +85,7 @@ arriving_on t source transport to room p =
     (receive t (record { transport = transport; source = source; class = 0; destination = to; packet = p }) (replicate room 0)).reply
 
 -- one that leaves: the index of its link, perhaps a neighbour's MID, and its next hop
-abbrev pub leaving_on : Table → ℕ → PerhapsMid → List ℕ → List ℕ → Sending
+abbrev pub leaving_on : Table → ℕ → Option ℕ → List ℕ → List ℕ → Sending
 leaving_on t index neighbour hop p =
     send t (record { index = record { 0 = index }; class = 0; neighbour = neighbour; next_hop = hop; packet = p })
 
@@ -97,22 +93,22 @@ leaving_on t index neighbour hop p =
 abbrev pub arriving : ℕ → ℕ → Destination → ℕ → List ℕ → Reception
 arriving source transport to room p = arriving_on (start_with 65).table source transport to room p
 
-abbrev pub leaving : ℕ → PerhapsMid → List ℕ → Sending
+abbrev pub leaving : ℕ → Option ℕ → List ℕ → Sending
 leaving index neighbour p = leaving_on (start_with 65).table index neighbour (destination p) p
 
 -- number and place of a packet: by TSB, where room is lent for every packet, and on the TVL
 abbrev pub answered : List ℕ → List ℕ
 answered p =
-    (arriving 2 4 NoDestination 1294 p).number ∷ (arriving 2 4 NoDestination 1294 p).place ∷ (leaving 0 NoMid p).number ∷ (leaving 0 NoMid p).place ∷ []
+    (arriving 2 4 NoDestination 1294 p).number ∷ (arriving 2 4 NoDestination 1294 p).place ∷ (leaving 0 None p).number ∷ (leaving 0 None p).place ∷ []
 
 -- which are the same
 infix 19 ◌at◌
 abbrev pub ◌at◌ : ℕ → ℕ → List ℕ
 number at place = number ∷ place ∷ number ∷ place ∷ []
 
-abbrev pub index_or_zero : PerhapsLink → ℕ
-index_or_zero (Link i) = i.0
-index_or_zero Nothing = 0
+abbrev pub index_or_zero : Option LinkIndex → ℕ
+index_or_zero (Some i) = i.0
+index_or_zero None = 0
 
 -- the links that calls give, one call after the other; 0 for none
 abbrev pub given : Table → List TableCall → List ℕ
@@ -196,7 +192,7 @@ abbrev pub sent : Sending → List ℕ
 sent s = s.number ∷ s.transport ∷ to_mid_or_zero s.destination ∷ []
 
 -- a packet to a film server, 2001:db8::5, on the only stop: the link's kind and flag, perhaps a neighbour's MID, and the next hop
-abbrev pub to_server : ℕ → ℕ → PerhapsMid → List ℕ → List ℕ
+abbrev pub to_server : ℕ → ℕ → Option ℕ → List ℕ → List ℕ
 to_server kind flag neighbour hop = sent (leaving_on (only_stop (stop_of (circle 5 0 0) kind flag)) 2 neighbour hop (packet_to (in_internet 5) 40))
 
 -- which is not resolvable, or goes to a MID by GeoUnicast
@@ -230,7 +226,7 @@ arriving_over max source to bytes =
     let r = (receive_over (over_three max) (record { transport = 3; source = source; class = 0; destination = Within to; packet = packet bytes }) (replicate 1294 0)).reply in
     r.number ∷ r.place ∷ []
 
-abbrev pub leaving_over : ℕ → PerhapsMid → ℕ → ℕ → List ℕ
+abbrev pub leaving_over : ℕ → Option ℕ → ℕ → ℕ → List ℕ
 leaving_over max neighbour index bytes =
     let r = send_over (over_three max) (record { index = record { 0 = index }; class = 0; neighbour = neighbour; next_hop = mast; packet = packet bytes }) in
     r.number ∷ r.place ∷ []

@@ -1,10 +1,8 @@
 -- RULES, Cases at the edges: those marked * as rows of one list, under the single statement `Edges`.
-use Rattle.std.specs.Prelude.{◌^◌, List, [], ◌∷◌, ◌++◌, pos, take, replicate}
+use Rattle.std.specs.Prelude.{◌^◌, List, [], ◌∷◌, ◌++◌, pos, take, replicate, None, Some}
 use Rattle.area.specs.Area.{good_area}
-use Rattle.links.specs.declared.PerhapsArea.TheVariants.{Set}
 use Rattle.links.specs.Calls.{enable, disable, set_area, set_own}
 use Rattle.links.specs.Run.{reply_over}
-use Rattle.ipv6.specs.declared.PerhapsMid.TheVariants.{Mid, Nothing as NoMid}
 use Rattle.ipv6.specs.Identifier.{link_local, mid_of}
 use Rattle.traffic.specs.declared.Destination.TheVariants.{Within, Nothing as NoDestination}
 use Rattle.traffic.specs.Run.{receive_over, interface_over}
@@ -61,7 +59,7 @@ rows =
     ∷ (rectangle 3 5 10 differs-from rectangle 3 5 100)
     ∷ (centred (pos 900_000_000) (pos 0) (circle 5 0 0) differs-from centred (pos 900_000_000) (pos 1) (circle 5 0 0))
     -- edge-given: a request goes to the area as it was given
-    ∷ (says (is_very (leaving_on (only (centred (pos 0) east (ellipse 5 5 77))) 2 NoMid all_nodes (packet 40)).destination (centred (pos 0) east (ellipse 5 5 77))) is 1)
+    ∷ (says (is_very (leaving_on (only (centred (pos 0) east (ellipse 5 5 77))) 2 None all_nodes (packet 40)).destination (centred (pos 0) east (ellipse 5 5 77))) is 1)
     -- edge-packet: 39, 40, 1,280 and 1,281 bytes: 20 at 39, good, good, 9
     ∷ (answered (packet 39) are 20 at 39)
     ∷ (answered (packet 40) are 0 at 0)
@@ -80,32 +78,32 @@ rows =
     ∷ ((arriving (2 ^ 48) 3 (Within (rectangle 1 1 360)) 1294 (packet 40)).number is 1)
     ∷ ((arriving 2 3 (Within (rectangle 1 1 360)) 1294 (packet 39)).number is 2)
     ∷ ((arriving 2 4 NoDestination 0 (packet 39)).number is 20)
-    ∷ ((leaving 5 (Mid (2 ^ 48)) (packet 40)).number is 1)
-    ∷ ((leaving 5 NoMid (packet 39)).number is 7)
-    ∷ ((leaving 1 NoMid (packet 39)).number is 20)
+    ∷ ((leaving 5 (Some (2 ^ 48)) (packet 40)).number is 1)
+    ∷ ((leaving 5 None (packet 39)).number is 7)
+    ∷ ((leaving 1 None (packet 39)).number is 20)
     -- edge-next-hop: with flag 1 the MID is the next hop's
-    ∷ (to_server 1 1 NoMid unspecified are unresolved)
-    ∷ (to_server 1 1 NoMid loopback are unresolved)
-    ∷ (to_server 1 1 NoMid all_nodes are unresolved)
-    ∷ (to_server 1 1 NoMid many_like_mast are unresolved)
-    ∷ (to_server 1 1 NoMid (take 15 mast) are unresolved)
-    ∷ (to_server 1 1 NoMid (in_internet 1) are unresolved)
-    ∷ (to_server 1 1 (Mid 0x020000000002) (in_internet 1) are unresolved)
-    ∷ (to_server 1 1 NoMid mast are unicast_to 0x020000000001)
+    ∷ (to_server 1 1 None unspecified are unresolved)
+    ∷ (to_server 1 1 None loopback are unresolved)
+    ∷ (to_server 1 1 None all_nodes are unresolved)
+    ∷ (to_server 1 1 None many_like_mast are unresolved)
+    ∷ (to_server 1 1 None (take 15 mast) are unresolved)
+    ∷ (to_server 1 1 None (in_internet 1) are unresolved)
+    ∷ (to_server 1 1 (Some 0x020000000002) (in_internet 1) are unresolved)
+    ∷ (to_server 1 1 None mast are unicast_to 0x020000000001)
     -- with flag 0 it is the one given, which does not help a next hop that is not good
-    ∷ (to_server 1 0 (Mid 0x020000000002) (in_internet 1) are unicast_to 0x020000000002)
-    ∷ (to_server 1 0 (Mid 0x020000000002) unspecified are unresolved)
-    ∷ (to_server 1 0 (Mid 0x020000000002) loopback are unresolved)
-    ∷ (to_server 1 0 (Mid 0x020000000002) all_nodes are unresolved)
-    ∷ (to_server 1 0 (Mid 0x020000000002) (take 15 mast) are unresolved)
-    ∷ (to_server 1 0 NoMid (in_internet 1) are unresolved)
-    ∷ (to_server 1 0 NoMid mast are unresolved)
+    ∷ (to_server 1 0 (Some 0x020000000002) (in_internet 1) are unicast_to 0x020000000002)
+    ∷ (to_server 1 0 (Some 0x020000000002) unspecified are unresolved)
+    ∷ (to_server 1 0 (Some 0x020000000002) loopback are unresolved)
+    ∷ (to_server 1 0 (Some 0x020000000002) all_nodes are unresolved)
+    ∷ (to_server 1 0 (Some 0x020000000002) (take 15 mast) are unresolved)
+    ∷ (to_server 1 0 None (in_internet 1) are unresolved)
+    ∷ (to_server 1 0 None mast are unresolved)
     -- on kind 3 it is the next hop's, though one is given
-    ∷ (to_server 3 0 (Mid 0x020000000002) mast are unicast_to 0x020000000001)
+    ∷ (to_server 3 0 (Some 0x020000000002) mast are unicast_to 0x020000000001)
     -- a multicast packet goes by no next hop; a packet that is bad is refused before 12
-    ∷ (sent (leaving_on (only (circle 5 0 0)) 2 NoMid unspecified (packet 40)) are (0 ∷ 3 ∷ 0 ∷ []))
-    ∷ (sent (leaving_on (only (circle 5 0 0)) 0 NoMid unspecified (packet 40)) are (0 ∷ 4 ∷ 0 ∷ []))
-    ∷ ((leaving_on (only (circle 5 0 0)) 2 NoMid unspecified (packet_to (in_internet 5) 39)).number is 20)
+    ∷ (sent (leaving_on (only (circle 5 0 0)) 2 None unspecified (packet 40)) are (0 ∷ 3 ∷ 0 ∷ []))
+    ∷ (sent (leaving_on (only (circle 5 0 0)) 0 None unspecified (packet 40)) are (0 ∷ 4 ∷ 0 ∷ []))
+    ∷ ((leaving_on (only (circle 5 0 0)) 2 None unspecified (packet_to (in_internet 5) 39)).number is 20)
     -- edge-run-start: three records do for a maximum of 4, and not of 5; 1 and 30 come before 23
     ∷ ((start_over_of 4 1).number is 0)
     ∷ ((start_over_of 5 1).number is 23)
@@ -123,13 +121,13 @@ rows =
     ∷ (call_over 5 (enable (stop 1)) is 23)
     ∷ (call_over 5 (disable (record { 0 = 0 })) is 23)
     ∷ (call_over 5 (disable (record { 0 = 2 })) is 23)
-    ∷ (call_over 5 (set_area (Set (rectangle 1 1 360))) is 23)
+    ∷ (call_over 5 (set_area (Some (rectangle 1 1 360))) is 23)
     ∷ (call_over 5 (set_own (2 ^ 48)) is 1)
     ∷ (call_over 5 (set_own 1) is 23)
     ∷ (arriving_over 5 (2 ^ 48) (rectangle 1 1 360) 39 are (1 ∷ 0 ∷ []))
     ∷ (arriving_over 5 2 (rectangle 1 1 360) 39 are (23 ∷ 0 ∷ []))
-    ∷ (leaving_over 5 (Mid (2 ^ 48)) 9 39 are (1 ∷ 0 ∷ []))
-    ∷ (leaving_over 5 NoMid 9 39 are (23 ∷ 0 ∷ []))
+    ∷ (leaving_over 5 (Some (2 ^ 48)) 9 39 are (1 ∷ 0 ∷ []))
+    ∷ (leaving_over 5 None 9 39 are (23 ∷ 0 ∷ []))
     ∷ ((interface_over (over_three 5) (record { 0 = 9 })).number is 23)
     -- edge-run-long: a run that is long enough answers as a table by value
     ∷ (call_over 4 (enable (stop_at (rectangle 1 1 360))) is 2)
@@ -142,8 +140,8 @@ rows =
     ∷ (arriving_over 4 2 (circle 3 0 0) 39 are (20 ∷ 39 ∷ []))
     ∷ (index_or_zero (receive_over (over_three 4) (record { transport = 3; source = 2; class = 0; destination = Within (circle 3 0 0); packet = packet 40 }) (replicate 1294 0)).reply.link is 4)
     ∷ (index_or_zero (receive_over (over_three 3) (record { transport = 3; source = 2; class = 0; destination = Within (circle 3 0 0); packet = packet 40 }) (replicate 1294 0)).reply.link is 1)
-    ∷ (leaving_over 3 NoMid 4 39 are (7 ∷ 0 ∷ []))
-    ∷ (leaving_over 4 NoMid 4 40 are (0 ∷ 0 ∷ []))
+    ∷ (leaving_over 3 None 4 39 are (7 ∷ 0 ∷ []))
+    ∷ (leaving_over 4 None 4 40 are (0 ∷ 0 ∷ []))
     ∷ ((interface_over (over_three 4) (record { 0 = 9 })).number is 7)
     ∷ ((interface_over (over_three 4) (record { 0 = 1 })).number is 0)
     ∷ several_rows

@@ -1,8 +1,6 @@
 -- RFC 4291, appendix A: the interface identifier of a MID, and the MID of an address (modified EUI-64).
-use Rattle.std.specs.Prelude.{ℕ, ◌+◌, ◌-◌, ◌/◌, ◌%◌, Bool, cond, ◌&&◌, List, [], ◌∷◌, ◌++◌, eqb, get_or, take, drop, replicate}
+use Rattle.std.specs.Prelude.{ℕ, ◌+◌, ◌-◌, ◌/◌, ◌%◌, Bool, cond, ◌&&◌, List, [], ◌∷◌, ◌++◌, eqb, get_or, take, drop, replicate, None, Option, Some}
 use Rattle.octets.specs.Digits.{mac, big_endian}
-use Rattle.ipv6.specs.declared.PerhapsMid.{PerhapsMid}
-use Rattle.ipv6.specs.declared.PerhapsMid.TheVariants.{Mid, Nothing}
 use Rattle.ipv6.specs.Address.{good_hop}
 
 -- the bit of value 2 is flipped
@@ -30,5 +28,5 @@ unfoldable pub mid_of_identifier : List ℕ → ℕ
 mid_of_identifier i = big_endian (first_flipped (take 3 i ++ drop 5 i))
 
 -- the identifier of an address is its last 8 bytes; what is no good next hop gives nothing
-unfoldable pub mid_of : List ℕ → PerhapsMid
-mid_of a = cond (good_hop a && from_mac (drop 8 a)) (Mid (mid_of_identifier (drop 8 a))) Nothing
+unfoldable pub mid_of : List ℕ → Option ℕ
+mid_of a = cond (good_hop a && from_mac (drop 8 a)) (Some (mid_of_identifier (drop 8 a))) None

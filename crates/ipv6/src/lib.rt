@@ -3,33 +3,29 @@
 
 ghost use Rattle.std.specs.Prelude.{◌≡◌};
 ghost use Rattle.octets.specs.Runs.{same};
+ghost use Rattle.replies.specs.Numbers.{number_of, reply_number};
 ghost use Rattle.replies.specs.Rules.{refusal};
 ghost use Rattle.ipv6.specs.Address.{multicast, zeros_then, loopback, unspecified, good_hop};
 ghost use Rattle.ipv6.specs.Packet.{source, destination, forbidden, packet_rules, fault_place};
 ghost use Rattle.ipv6.specs.Identifier.{flipped, identifier, link_local, mid_of};
 
-// A MID, where there is one to be had.
-#[derive(Clone, Copy)]
-pub enum PerhapsMid {
-    Mid(u64),
-    Nothing,
-}
+use replies::Refusal;
 
+#[tactic(auto, unfolding(crate::specs::Address::multicast))]
 pub fn is_multicast(address: &[u8]) -> bool
     ensures { result ≡ multicast address.now }
 {
-    if address.len() == 0 {
-        return false;
-    }
-    address[0] == 0xff
+    address.first() == Some(&0xff)
 }
 
 // Fifteen zeros and this last byte.
 fn is_zeros_then(address: &[u8], last: u8) -> bool
     ensures { result ≡ same address.now (zeros_then last) }
 {
-    let whole = [0, 0, 0, 0, 0, 0, 0, 0, 0, 0, 0, 0, 0, 0, 0, last];
-    octets::equal(address, &whole)
+    octets::equal(
+        address,
+        &[0, 0, 0, 0, 0, 0, 0, 0, 0, 0, 0, 0, 0, 0, 0, last],
+    )
 }
 
 pub fn is_loopback(address: &[u8]) -> bool
@@ -45,6 +41,7 @@ pub fn is_unspecified(address: &[u8]) -> bool
 }
 
 // Whether a next hop can be a neighbour's address.
+#[tactic(auto, unfolding(crate::specs::Address::good_hop))]
 pub fn is_good_hop(address: &[u8]) -> bool
     ensures { result ≡ good_hop address.now }
 {
@@ -66,6 +63,7 @@ pub fn destination_of(packet: &[u8]) -> &[u8]
     octets::part(packet, 24, 16)
 }
 
+#[tactic(auto, unfolding(crate::specs::Packet::forbidden))]
 fn is_forbidden(packet: &[u8]) -> bool
     ensures { result ≡ forbidden packet.now }
 {
@@ -74,45 +72,46 @@ fn is_forbidden(packet: &[u8]) -> bool
     is_multicast(from) | is_loopback(from) | is_unspecified(to) | is_loopback(to)
 }
 
-// The number that refuses a packet, in the order 9, 20, 21, 22, 10; 0 for a good one.
-pub fn packet_refusal(packet: &[u8]) -> u8
-    ensures { result ≡ refusal (packet_rules packet.now) }
+// Refuses a bad packet by the first that holds of 9, 20, 21, 22, 10.
+#[tactic(auto, unfolding(crate::specs::Packet::packet_rules))]
+pub fn check_packet(packet: &[u8]) -> Result<(), Refusal>
+    ensures { reply_number result ≡ refusal (packet_rules packet.now) }
 {
     if 1280 < packet.len() {
-        return replies::PACKET_TOO_LONG;
+        return Err(Refusal::PacketTooLong);
     }
     if packet.len() < 40 {
-        return replies::PACKET_SHORT;
+        return Err(Refusal::PacketShort);
     }
     // A good packet passes all three, and nearly every packet is good; so they are tested first, and told in their order.
     let wrong_version = packet[0] / 16 != 6;
     let wrong_length = octets::number16(packet, 4) as usize + 40 != packet.len();
     let forbidden = is_forbidden(packet);
     if wrong_version {
-        return replies::VERSION_NOT_6;
+        return Err(Refusal::VersionNot6);
     }
     if wrong_length {
-        return replies::LENGTH_FIELD_WRONG;
+        return Err(Refusal::LengthFieldWrong);
     }
     if forbidden {
-        return replies::ADDRESS_NOT_ALLOWED;
+        return Err(Refusal::AddressNotAllowed);
     }
-    replies::DONE
+    Ok(())
 }
 
-// The place in the packet that a reply of this number gives: where the fault stands, and 0 where none does.
-pub fn fault_place(number: u8, packet: &[u8]) -> usize
-    ensures { result ≡ fault_place number packet.now }
+// The place in the packet that a refusal gives: where the fault stands, and 0 where none does.
+#[tactic(auto, using(replies::proofs::Laws::Numbers::number_injective), unfolding(crate::specs::Packet::fault_place))]
+pub fn fault_place(refusal: Refusal, packet: &[u8]) -> usize
+    ensures { result ≡ fault_place (number_of refusal) packet.now }
 {
-    if number == replies::PACKET_SHORT {
-        return packet.len();
+    match refusal {
+        Refusal::PacketShort => packet.len(),
+        Refusal::LengthFieldWrong => 4,
+        _ => 0,
     }
-    if number == replies::LENGTH_FIELD_WRONG {
-        return 4;
-    }
-    0
 }
 
+#[tactic(auto, unfolding(crate::specs::Identifier::flipped))]
 fn flip(b: u8) -> u8
     ensures { result ≡ flipped b }
 {
@@ -123,6 +122,7 @@ fn flip(b: u8) -> u8
 }
 
 // The interface identifier of a MID.
+#[tactic(auto, unfolding(crate::specs::Identifier::identifier, octets::specs::Digits::digits))]
 pub fn identifier_of(mid: u64) -> [u8; 8]
     ensures { result ≡ identifier mid }
 {
@@ -131,6 +131,7 @@ pub fn identifier_of(mid: u64) -> [u8; 8]
 }
 
 // The address of a MID within fe80::/64.
+#[tactic(auto, unfolding(crate::specs::Identifier::link_local, crate::specs::Identifier::identifier, octets::specs::Digits::digits))]
 pub fn link_local_of(mid: u64) -> [u8; 16]
     ensures { result ≡ link_local mid }
 {
@@ -141,17 +142,18 @@ pub fn link_local_of(mid: u64) -> [u8; 16]
 }
 
 // The MID from which an address was built, if it was. With FF FE in its place it is neither :: nor ::1, so these are not asked.
-pub fn mid_of(address: &[u8]) -> PerhapsMid
+#[tactic(auto, using(crate::proofs::Laws::Identifier::no_address, crate::proofs::Laws::Identifier::without_ff_fe, crate::proofs::Laws::Identifier::many_without_mid, crate::proofs::Laws::Identifier::with_ff_fe, crate::proofs::Laws::Identifier::mid_bytes))]
+pub fn mid_of(address: &[u8]) -> Option<u64>
     ensures { result ≡ mid_of address.now }
 {
     if address.len() != 16 {
-        return PerhapsMid::Nothing;
+        return None;
     }
     if !((address[11] == 0xff) & (address[12] == 0xfe)) {
-        return PerhapsMid::Nothing;
+        return None;
     }
     if address[0] == 0xff {
-        return PerhapsMid::Nothing;
+        return None;
     }
     let mac = [
         flip(address[8]),
@@ -161,5 +163,5 @@ pub fn mid_of(address: &[u8]) -> PerhapsMid
         address[14],
         address[15],
     ];
-    PerhapsMid::Mid(octets::mid(&mac, 0))
+    Some(octets::mid(&mac, 0))
 }

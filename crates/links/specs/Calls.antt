@@ -1,14 +1,11 @@
 -- The calls that alter the table: their refusals in the rules' order, and what they do where they are not refused.
-use Rattle.std.specs.Prelude.{ℕ, zero, suc, ◌-◌, Bool, true, not, ◌&&◌, ◌||◌, List, [], ◌∷◌, ◌++◌, leb, set}
+use Rattle.area.specs.declared.Area.{Area}
+use Rattle.std.specs.Prelude.{ℕ, zero, suc, ◌-◌, Bool, true, not, ◌&&◌, ◌||◌, List, [], ◌∷◌, ◌++◌, leb, set, None, Option, Some}
 use Rattle.replies.specs.Rules.{Rule, ◌if◌, ◌then◌, refusal}
 use Rattle.area.specs.Area.{good_area}
-use Rattle.links.specs.declared.PerhapsArea.{PerhapsArea}
-use Rattle.links.specs.declared.PerhapsArea.TheVariants.{Set, Unset}
 use Rattle.links.specs.declared.Interface.{Interface}
 use Rattle.links.specs.declared.LinkIndex.{LinkIndex}
-use Rattle.links.specs.declared.PerhapsLink.{PerhapsLink}
-use Rattle.links.specs.declared.PerhapsLink.TheVariants.{Link, Nothing}
-use Rattle.links.specs.declared.Reply.{Reply}
+use Rattle.links.specs.Replies.{Reply}
 use Rattle.links.specs.declared.Settings.{Settings}
 use Rattle.links.specs.declared.Slot.{Slot}
 use Rattle.links.specs.declared.StartValues.{StartValues}
@@ -19,12 +16,12 @@ use Rattle.links.specs.Slots.{first_stop, is_fixed, index_at, place_of, free, va
 pub data TableCall : Type 0 where
   enable : Settings → TableCall
   disable : LinkIndex → TableCall
-  set_area : PerhapsArea → TableCall
+  set_area : Option Area → TableCall
   set_own : ℕ → TableCall
 
-abbrev pub good_dynamic : PerhapsArea → Bool
-good_dynamic (Set a) = good_area a
-good_dynamic Unset = true
+abbrev pub good_dynamic : Option Area → Bool
+good_dynamic (Some a) = good_area a
+good_dynamic None = true
 
 -- enable-refusals: those that the enabled links decide, and 5 within the call
 unfoldable pub slot_rules : List Slot → Settings → List Rule
@@ -55,7 +52,7 @@ with_slot t k x = record {
   slots = set t.slots k x;
 }
 
-abbrev pub with_area : Table → PerhapsArea → Table
+abbrev pub with_area : Table → Option Area → Table
 with_area t a = record {
   own = t.own;
   max = t.max;
@@ -76,11 +73,11 @@ with_own t m = record {
 }
 
 -- link-lowest-index: an enable takes it; of the others none gives a link
-unfoldable pub link_after : List Slot → TableCall → PerhapsLink
-link_after l (enable s) = Link (index_at (place unused l))
-link_after l (disable i) = Nothing
-link_after l (set_area a) = Nothing
-link_after l (set_own m) = Nothing
+unfoldable pub link_after : List Slot → TableCall → Option LinkIndex
+link_after l (enable s) = Some (index_at (place unused l))
+link_after l (disable i) = None
+link_after l (set_area a) = None
+link_after l (set_own m) = None
 
 unfoldable pub table_after : Table → TableCall → Table
 table_after t (enable s) = with_slot t (place unused (counted t)) (in_use (stored s))
@@ -91,7 +88,7 @@ table_after t (set_own m) = with_own t m
 -- refusal-leaves: its number, no link, and nothing changed
 abbrev pub answer : ℕ → Table → TableCall → Reply
 answer zero t c = record { number = 0; link = link_after (counted t) c; table = table_after t c }
-answer (suc n) t c = record { number = suc n; link = Nothing; table = t }
+answer (suc n) t c = record { number = suc n; link = None; table = t }
 
 unfoldable pub reply : Table → TableCall → Reply
 reply t c = answer (refusal (rules (counted t) c)) t c
@@ -125,7 +122,7 @@ fresh memory v = record {
   max = v.max;
   tvl = v.tvl;
   dgvl = v.dgvl;
-  area = Unset;
+  area = None;
   slots = cleared (v.max - 1) memory;
 }
 
@@ -137,8 +134,8 @@ plain_start = record { own = 0; max = 2; tvl = plain; dgvl = plain }
 
 -- start-refused: its number and the table for own MID 0, maximum 2, fixed links of kind 1 and flag 1
 abbrev pub begin : ℕ → List Slot → StartValues → Reply
-begin zero memory v = record { number = 0; link = Nothing; table = fresh memory v }
-begin (suc n) memory v = record { number = suc n; link = Nothing; table = fresh memory plain_start }
+begin zero memory v = record { number = 0; link = None; table = fresh memory v }
+begin (suc n) memory v = record { number = suc n; link = None; table = fresh memory plain_start }
 
 -- start in some memory, with maxima up to `most`
 unfoldable pub start : ℕ → List Slot → StartValues → Reply

@@ -1,16 +1,13 @@
 -- Demands 1 and 2 of the mission, for the calls that alter the table.
-use Rattle.std.specs.Prelude.{ℕ, ◌+◌, ◌-◌, ◌≤◌, ◌<◌, ◌≡◌, ◌≢◌, true, List, length, get_or, drop}
+use Rattle.area.specs.declared.Area.{Area}
+use Rattle.std.specs.Prelude.{ℕ, ◌+◌, ◌-◌, ◌≤◌, ◌<◌, ◌≡◌, ◌≢◌, true, List, length, get_or, drop, None, Option, Some}
 use Rattle.replies.specs.Rules.{Rule, Exact}
 use Rattle.prefix.specs.Prefix.{no_prefix}
 use Rattle.prefixes.specs.declared.Prefixes.{Prefixes}
 use Rattle.prefixes.specs.Prefixes.{place, listed}
 use Rattle.links.specs.declared.Head.{Head}
 use Rattle.links.specs.declared.LinkIndex.{LinkIndex}
-use Rattle.links.specs.declared.PerhapsArea.{PerhapsArea}
-use Rattle.links.specs.declared.PerhapsArea.TheVariants.{Unset}
-use Rattle.links.specs.declared.PerhapsHead.TheVariants.{Given, Nothing as NoHead}
-use Rattle.links.specs.declared.PerhapsLink.TheVariants.{Link, Nothing}
-use Rattle.links.specs.declared.Reply.{Reply}
+use Rattle.links.specs.Replies.{Reply}
 use Rattle.links.specs.declared.Settings.{Settings}
 use Rattle.links.specs.declared.Slot.{Slot}
 use Rattle.links.specs.declared.StartValues.{StartValues}
@@ -24,7 +21,7 @@ use Rattle.links.specs.Run.{over, rules_over, reply_over, start_rules_over, star
 -- Demand 1: bad input gets its number in the order of these rules, and a refusal changes nothing
 pub record Refuses (rs : List Rule) (t : Table) (r : Reply) : Type 0 where
   pub exact : Exact rs r.number
-  pub unchanged : r.number ≢ 0 → (r.table ≡ t) × (r.link ≡ Nothing)
+  pub unchanged : r.number ≢ 0 → (r.table ≡ t) × (r.link ≡ None)
 
 -- the table of these values without a stop link, in some memory: the slots that count are free, and those past them as they were
 pub record WithoutStops (memory : List Slot) (v : StartValues) (t : Table) : Type 0 where
@@ -32,7 +29,7 @@ pub record WithoutStops (memory : List Slot) (v : StartValues) (t : Table) : Typ
   pub max : t.max ≡ v.max
   pub tvl : t.tvl ≡ v.tvl
   pub dgvl : t.dgvl ≡ v.dgvl
-  pub area : t.area ≡ Unset
+  pub area : t.area ≡ None
   pub no_stop : (j : ℕ) → get_or (counted t) j free ≡ free
   pub size : length t.slots ≡ length memory
   pub rest : drop (t.max - 1) t.slots ≡ drop (t.max - 1) memory
@@ -40,14 +37,14 @@ pub record WithoutStops (memory : List Slot) (v : StartValues) (t : Table) : Typ
 -- of a start: a refused one gives no link, and the table for own MID 0, maximum 2, fixed links of kind 1 and flag 1
 pub record RefusesStart (most : ℕ) (memory : List Slot) (v : StartValues) : Type 0 where
   pub exact : Exact (start_values most v) (start most memory v).number
-  pub no_link : (start most memory v).number ≢ 0 → (start most memory v).link ≡ Nothing
+  pub no_link : (start most memory v).number ≢ 0 → (start most memory v).link ≡ None
   pub plain_table : (start most memory v).number ≢ 0
       → WithoutStops memory (record { own = 0; max = 2; tvl = record { kind = 1; flag = 1 }; dgvl = record { kind = 1; flag = 1 } }) (start most memory v).table
 
 -- run-start: a refused start over a run changes nothing and gives no table
 pub record RefusesStartOver (run : List Slot) (v : StartValues) : Type 0 where
   pub exact : Exact (start_rules_over run v) (start_over run v).number
-  pub unchanged : (start_over run v).number ≢ 0 → ((start_over run v).head ≡ NoHead) × ((start_over run v).run ≡ run)
+  pub unchanged : (start_over run v).number ≢ 0 → ((start_over run v).head ≡ None) × ((start_over run v).run ≡ run)
 
 -- of both layouts: of a table by value, and of one over a run, with 23 in its place
 unfoldable pub TableDemand1 : Type 0
@@ -62,12 +59,12 @@ TableDemand1 =
 
 -- a start that answers 0 gives the table of its values, with no stop link
 pub record Starts (most : ℕ) (memory : List Slot) (v : StartValues) : Type 0 where
-  pub no_link : (start most memory v).link ≡ Nothing
+  pub no_link : (start most memory v).link ≡ None
   pub table : WithoutStops memory v (start most memory v).table
 
 -- run-start: so does a start over a run, which gives its head
 pub record StartsOver (run : List Slot) (v : StartValues) (h : Head) : Type 0 where
-  pub head : (start_over run v).head ≡ Given h
+  pub head : (start_over run v).head ≡ Some h
   pub table : WithoutStops run v (over h (start_over run v).run)
 
 -- the two tables differ in slot k alone
@@ -88,7 +85,7 @@ pub record Keeps (given there : Prefixes) : Type 0 where
 
 -- an enable that answers 0 adds exactly its link, at the lowest unused index
 pub record Adds (t : Table) (s : Settings) (k : ℕ) : Type 0 where
-  pub link : (reply t (enable s)).link ≡ Link (record { 0 = k + 2 })
+  pub link : (reply t (enable s)).link ≡ Some (record { 0 = k + 2 })
   pub within : k + 2 ≤ t.max
   pub lower : (j : ℕ) → j < k → (get_or (counted t) j free).enabled ≡ true
   pub unused : get_or (counted t) k free ≡ free
@@ -99,14 +96,14 @@ pub record Adds (t : Table) (s : Settings) (k : ℕ) : Type 0 where
 -- a disable that answers 0 removes exactly its link
 pub record Removes (t : Table) (i : LinkIndex) : Type 0 where
   pub stop : 2 ≤ i.0
-  pub no_link : (reply t (disable i)).link ≡ Nothing
+  pub no_link : (reply t (disable i)).link ≡ None
   pub was : (get_or (counted t) (i.0 - 2) free).enabled ≡ true
   pub gone : get_or (counted (reply t (disable i)).table) (i.0 - 2) free ≡ free
   pub alone : DifferAt (i.0 - 2) t (reply t (disable i)).table
 
 -- a call that leaves the table with this own MID and this area, and else as it was
-pub record Sets (t : Table) (c : TableCall) (mid : ℕ) (a : PerhapsArea) : Type 0 where
-  pub no_link : (reply t c).link ≡ Nothing
+pub record Sets (t : Table) (c : TableCall) (mid : ℕ) (a : Option Area) : Type 0 where
+  pub no_link : (reply t c).link ≡ None
   pub own : (reply t c).table.own ≡ mid
   pub max : (reply t c).table.max ≡ t.max
   pub tvl : (reply t c).table.tvl ≡ t.tvl
@@ -123,5 +120,5 @@ TableDemand2 =
     × ((most : ℕ) (memory : List Slot) (t : Table) → Reached most memory t →
     ((s : Settings) → (reply t (enable s)).number ≡ 0 → (k : ℕ) × Adds t s k)
     × ((i : LinkIndex) → (reply t (disable i)).number ≡ 0 → Removes t i)
-    × ((a : PerhapsArea) → (reply t (set_area a)).number ≡ 0 → Sets t (set_area a) t.own a)
+    × ((a : Option Area) → (reply t (set_area a)).number ≡ 0 → Sets t (set_area a) t.own a)
     × ((m : ℕ) → (reply t (set_own m)).number ≡ 0 → Sets t (set_own m) m t.area))

@@ -1,7 +1,6 @@
 -- The link that an index names: whether it is enabled, its interface, and its area.
-use Rattle.std.specs.Prelude.{Bool, cond, ◌||◌, List, eqb}
-use Rattle.links.specs.declared.PerhapsArea.{PerhapsArea}
-use Rattle.links.specs.declared.PerhapsArea.TheVariants.{Set, Unset}
+use Rattle.area.specs.declared.Area.{Area}
+use Rattle.std.specs.Prelude.{Bool, cond, ◌||◌, List, eqb, None, Option, Some}
 use Rattle.links.specs.declared.Chosen.{Chosen}
 use Rattle.links.specs.declared.Interface.{Interface}
 use Rattle.links.specs.declared.LinkIndex.{LinkIndex}
@@ -22,11 +21,11 @@ interface_at t i =
     (slot_at (counted t) i).settings.interface)
 
 -- its area: the topological link has none
-unfoldable pub area_at : Table → LinkIndex → PerhapsArea
+unfoldable pub area_at : Table → LinkIndex → Option Area
 area_at t i =
-    cond (eqb i.0 tvl_index.0) Unset
+    cond (eqb i.0 tvl_index.0) None
     (cond (eqb i.0 dgvl_index.0) t.area
-    (Set (slot_at (counted t) i).settings.area))
+    (Some (slot_at (counted t) i).settings.area))
 
 -- what a delivery asks of a link, and what a request asks of it
 abbrev pub chosen : Table → LinkIndex → Chosen
@@ -36,9 +35,9 @@ abbrev pub named : Table → LinkIndex → Named
 named t i = record { enabled = enabled_at (counted t) i; interface = interface_at t i; area = area_at t i }
 
 -- the same, by the fixed links, the area of the DGVL, and the link's slot
-abbrev pub named_from : Interface → Interface → PerhapsArea → LinkIndex → Slot → Named
+abbrev pub named_from : Interface → Interface → Option Area → LinkIndex → Slot → Named
 named_from tvl dgvl area i x = record {
   enabled = is_fixed i || x.enabled;
   interface = cond (eqb i.0 tvl_index.0) tvl (cond (eqb i.0 dgvl_index.0) dgvl x.settings.interface);
-  area = cond (eqb i.0 tvl_index.0) Unset (cond (eqb i.0 dgvl_index.0) area (Set x.settings.area));
+  area = cond (eqb i.0 tvl_index.0) None (cond (eqb i.0 dgvl_index.0) area (Some x.settings.area));
 }

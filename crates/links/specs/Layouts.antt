@@ -1,10 +1,7 @@
 -- RULES, A table over a run: which tables over a run calls reach, what a call touches of the run, and that both layouts answer alike.
-use Rattle.std.specs.Prelude.{ℕ, ◌+◌, ◌-◌, ◌≤◌, ◌≡◌, ◌≢◌, ◌↔◌, false, List, [], ◌∷◌, length, get_or}
+use Rattle.std.specs.Prelude.{ℕ, ◌+◌, ◌≤◌, ◌≡◌, ◌≢◌, ◌↔◌, false, List, [], ◌∷◌, length, get_or, Some}
 use Rattle.links.specs.declared.Head.{Head}
-use Rattle.links.specs.declared.PerhapsHead.TheVariants.{Given}
-use Rattle.links.specs.declared.PerhapsLink.{PerhapsLink}
-use Rattle.links.specs.declared.PerhapsLink.TheVariants.{Link}
-use Rattle.links.specs.declared.Reply.{Reply}
+use Rattle.links.specs.Replies.{Reply}
 use Rattle.links.specs.declared.Slot.{Slot}
 use Rattle.links.specs.declared.StartValues.{StartValues}
 use Rattle.links.specs.declared.Table.{Table}
@@ -15,7 +12,7 @@ use Rattle.links.specs.Run.{over, too_short, reply_over, start_over}
 
 -- run-reached: its start answered 0, and each later call was given the head and the whole run as the last one left them
 pub data ReachedOver (first : List Slot) : Head → List Slot → Type 0 where
-  started_over : (v : StartValues) (h : Head) → (start_over first v).number ≡ 0 → (start_over first v).head ≡ Given h → ReachedOver first h (start_over first v).run
+  started_over : (v : StartValues) (h : Head) → (start_over first v).number ≡ 0 → (start_over first v).head ≡ Some h → ReachedOver first h (start_over first v).run
   called_over : {h : Head} {run : List Slot} → ReachedOver first h run → (c : TableCall) (next : Head) (left : List Slot)
       → (reply_over (over h run) c).table ≡ over next left → ReachedOver first next left
 
@@ -25,7 +22,7 @@ ReachedInRun = (first : List Slot) (h : Head) (run : List Slot) → ReachedOver 
 
 -- run-touches: the record of the link that an enable gives, and of the index that a disable names; record j is that of index j + 2
 abbrev pub Own : Table → TableCall → ℕ → Type 0
-Own t (enable s) j = (reply_over t (enable s)).link ≡ Link (record { 0 = j + 2 })
+Own t (enable s) j = (reply_over t (enable s)).link ≡ Some (record { 0 = j + 2 })
 Own t (disable i) j = i.0 ≡ j + 2
 Own t (set_area a) j = ⊥
 Own t (set_own m) j = ⊥
@@ -58,7 +55,7 @@ pub record AnswersAlike (a b : Reply) : Type 0 where
 -- a start, where both take the maximum
 pub record StartsAlike (run : List Slot) (v : StartValues) : Type 0 where
   pub number : (start_by_value v).number ≡ (start_over run v).number
-  pub table : (start_by_value v).number ≡ 0 → (h : Head) × ((start_over run v).head ≡ Given h) × Alike (start_by_value v).table (over h (start_over run v).run)
+  pub table : (start_by_value v).number ≡ 0 → (h : Head) × ((start_over run v).head ≡ Some h) × Alike (start_by_value v).table (over h (start_over run v).run)
 
 -- one call after the other
 abbrev pub answers : Table → List TableCall → List Reply

@@ -1,6 +1,7 @@
 pub mod Settings
 pub mod Slots
 pub mod Index
+pub mod Replies
 pub mod Calls
 pub mod Reached
 pub mod Run

@@ -1,20 +1,18 @@
 -- RULES, A table over a run: a head by value and a lent run of link records, one per stop index. The calls on it are those on every
 -- table, with one refusal more: 23, a run that is too short.
-use Rattle.std.specs.Prelude.{ℕ, zero, suc, ◌-◌, ◌≡◌, Bool, not, List, [], ◌++◌, ltb, length}
+use Rattle.std.specs.Prelude.{ℕ, zero, suc, ◌-◌, ◌≡◌, Bool, not, List, [], ◌++◌, ltb, length, None, Option, Some, Result}
 use Rattle.replies.specs.Rules.{Rule, ◌if◌, ◌then◌, refusal}
-use Rattle.links.specs.declared.Begun.{Begun}
+use Rattle.replies.specs.declared.Refusal.{Refusal}
+use Rattle.replies.specs.Numbers.{reply_number}
 use Rattle.links.specs.declared.Head.{Head}
 use Rattle.links.specs.declared.HeadReply.{HeadReply}
-use Rattle.links.specs.declared.PerhapsArea.TheVariants.{Unset}
-use Rattle.links.specs.declared.PerhapsHead.{PerhapsHead}
-use Rattle.links.specs.declared.PerhapsHead.TheVariants.{Given, Nothing}
-use Rattle.links.specs.declared.Reply.{Reply}
+use Rattle.links.specs.Replies.{Reply, link_given, head_given}
 use Rattle.links.specs.declared.Slot.{Slot}
 use Rattle.links.specs.declared.StartValues.{StartValues}
 use Rattle.links.specs.declared.Table.{Table}
 use Rattle.links.specs.Settings.{mid_ok, settings_values}
 use Rattle.links.specs.Slots.{counted}
-use Rattle.links.specs.Calls.{TableCall, enable, disable, set_area, set_own, rules, answer, reply, start_values, cleared}
+use Rattle.links.specs.Calls.{TableCall, enable, disable, set_area, set_own, rules, answer, start_values, cleared}
 
 -- run-table: a head and a run are a table, whose slots are the records of the run
 abbrev pub over : Head → List Slot → Table
@@ -43,7 +41,7 @@ reply_over t c = answer (refusal (rules_over t c)) t c
 
 -- what a call promises of its reply and of the run that it leaves: together they are the definition's reply, table and all
 abbrev pub Left : Reply → HeadReply → List Slot → Type 0
-Left q r run = record { number = r.number; link = r.link; table = over r.head run } ≡ q
+Left q r run = record { number = reply_number r.answer; link = link_given r.answer; table = over r.head run } ≡ q
 
 -- A start over a run
 
@@ -51,21 +49,21 @@ unfoldable pub start_rules_over : List Slot → StartValues → List Rule
 start_rules_over run v = start_values 4093 v ++ (23 if too_short v.max run then [])
 
 abbrev pub fresh_head : StartValues → Head
-fresh_head v = record { own = v.own; max = v.max; tvl = v.tvl; dgvl = v.dgvl; area = Unset }
+fresh_head v = record { own = v.own; max = v.max; tvl = v.tvl; dgvl = v.dgvl; area = None }
 
 pub record Started : Type 0 where
   pub number : ℕ
-  pub head : PerhapsHead
+  pub head : Option Head
   pub run : List Slot
 
 -- what a start promises, likewise
-abbrev pub Begins : Started → Begun → List Slot → Type 0
-Begins q r run = record { number = r.number; head = r.head; run = run } ≡ q
+abbrev pub Begins : Started → Result Head Refusal → List Slot → Type 0
+Begins q r run = record { number = reply_number r; head = head_given r; run = run } ≡ q
 
 -- run-start: maximum - 1 records are cleared, and the rest stays; a refused start changes nothing and gives no table
 abbrev pub begin_over : ℕ → List Slot → StartValues → Started
-begin_over zero run v = record { number = 0; head = Given (fresh_head v); run = cleared (v.max - 1) run }
-begin_over (suc n) run v = record { number = suc n; head = Nothing; run = run }
+begin_over zero run v = record { number = 0; head = Some (fresh_head v); run = cleared (v.max - 1) run }
+begin_over (suc n) run v = record { number = suc n; head = None; run = run }
 
 unfoldable pub start_over : List Slot → StartValues → Started
 start_over run v = begin_over (refusal (start_rules_over run v)) run v

@@ -2,38 +2,36 @@
 ghost use Rattle.std.specs.Prelude.{◌≡◌};
 ghost use Rattle.links.specs.Index.{named_from};
 
-use crate::{Interface, LinkIndex, Named, PerhapsArea, Slot};
+use crate::{Interface, LinkIndex, Named, Slot};
+use area::Area;
 
 // Its interface and its area. The topological link has no area, the dynamic link perhaps one.
 pub fn link_from(
     tvl: Interface,
     dgvl: Interface,
-    area: PerhapsArea,
+    area: Option<Area>,
     index: LinkIndex,
     slot: Slot,
 ) -> Named
     ensures { result ≡ named_from tvl dgvl area index slot }
 {
-    if index.0 == LinkIndex::TVL.0 {
+    if index == LinkIndex::TVL {
         return Named {
             enabled: true,
             interface: tvl,
-            area: PerhapsArea::Unset,
+            area: None,
         };
     }
-    if index.0 == LinkIndex::DGVL.0 {
+    if index == LinkIndex::DGVL {
         return Named {
             enabled: true,
             interface: dgvl,
-            area: area,
+            area,
         };
     }
-    let s = slot.settings;
-    let a = s.area;
-    let f = s.interface;
     Named {
         enabled: slot.enabled,
-        interface: f,
-        area: PerhapsArea::Set(a),
+        interface: slot.settings.interface,
+        area: Some(slot.settings.area),
     }
 }

@@ -11,9 +11,10 @@ ghost use Rattle.links.specs.Calls.{fresh, plain_start};
 
 use area::Area;
 use prefixes::Prefixes;
+use replies::Refusal;
 
 // The index of a virtual link. The two fixed links bear index 0 and 1 always.
-#[derive(Clone, Copy)]
+#[derive(Clone, Copy, PartialEq, Eq)]
 pub struct LinkIndex(pub usize);
 
 impl LinkIndex {
@@ -42,6 +43,7 @@ pub const MOST_OVER_A_RUN: usize = 4093;
 // A link's interface: its kind and its resolve flag.
 #[derive(Clone, Copy)]
 pub struct Interface {
+    // a number, since a kind outside the list is an input that 1 answers (table_demand_1; the clause of value_table::enable)
     pub kind: u8,
     pub flag: u8,
 }
@@ -61,13 +63,6 @@ pub struct Slot {
     pub settings: Settings,
 }
 
-// The area of a link, where it has one: a stop link has, the topological link has none, the dynamic link's may be set and cleared.
-#[derive(Clone, Copy)]
-pub enum PerhapsArea {
-    Set(Area),
-    Unset,
-}
-
 // What a start is given.
 #[derive(Clone, Copy)]
 pub struct StartValues {
@@ -77,13 +72,14 @@ pub struct StartValues {
     pub dgvl: Interface,
 }
 
+// A table by value. The area is the dynamic link's, which may be set and cleared.
 #[derive(Clone, Copy)]
 pub struct Table {
     pub own: u64,
     pub max: usize,
     pub tvl: Interface,
     pub dgvl: Interface,
-    pub area: PerhapsArea,
+    pub area: Option<Area>,
     pub slots: [Slot; SLOTS],
 }
 
@@ -94,20 +90,7 @@ pub struct Head {
     pub max: usize,
     pub tvl: Interface,
     pub dgvl: Interface,
-    pub area: PerhapsArea,
-}
-
-// A table over a run, where a start gave one.
-#[derive(Clone, Copy)]
-pub enum PerhapsHead {
-    Given(Head),
-    Nothing,
-}
-
-#[derive(Clone, Copy)]
-pub enum PerhapsLink {
-    Link(LinkIndex),
-    Nothing,
+    pub area: Option<Area>,
 }
 
 // The link that was chosen for a packet: all that a delivery asks of it, whatever the layout of the table.
@@ -122,7 +105,7 @@ pub struct Chosen {
 pub struct Named {
     pub enabled: bool,
     pub interface: Interface,
-    pub area: PerhapsArea,
+    pub area: Option<Area>,
 }
 
 // What a disabled slot holds.
@@ -137,15 +120,13 @@ pub fn blank_slot() -> Slot
         b: 0,
         angle: 0,
     };
-    let prefixes = prefixes::none();
-    let settings = Settings {
-        area: area,
-        interface: Interface { kind: 0, flag: 0 },
-        prefixes: prefixes,
-    };
     Slot {
         enabled: false,
-        settings: settings,
+        settings: Settings {
+            area,
+            interface: Interface { kind: 0, flag: 0 },
+            prefixes: prefixes::none(),
+        },
     }
 }
 
@@ -154,14 +135,12 @@ impl Table {
     pub fn fresh(v: StartValues) -> Self
         ensures { result ≡ fresh value_slots v }
     {
-        let tvl = v.tvl;
-        let dgvl = v.dgvl;
         Table {
             own: v.own,
             max: v.max,
-            tvl: tvl,
-            dgvl: dgvl,
-            area: PerhapsArea::Unset,
+            tvl: v.tvl,
+            dgvl: v.dgvl,
+            area: None,
             slots: [blank_slot(); SLOTS],
         }
     }
@@ -185,26 +164,16 @@ impl Table {
     }
 }
 
-// What a call on the table answers: its number, the link if one is given, and the table after it.
+// What a call on the table answers: the link if it gives one, or why it is refused; and the table after it.
 #[derive(Clone, Copy)]
-pub struct Reply {
-    pub number: u8,
-    pub link: PerhapsLink,
+pub struct TableReply {
+    pub answer: Result<Option<LinkIndex>, Refusal>,
     pub table: Table,
 }
 
-// What a call on a table over a run answers: its number, the link if one is given, and the head after it. The records after it are in
-// the run.
+// What a call on a table over a run answers, with the head after it. The records after it are in the run.
 #[derive(Clone, Copy)]
 pub struct HeadReply {
-    pub number: u8,
-    pub link: PerhapsLink,
+    pub answer: Result<Option<LinkIndex>, Refusal>,
     pub head: Head,
-}
-
-// What a start over a run answers: its number, and the head of the table, or none where it is refused.
-#[derive(Clone, Copy)]
-pub struct Begun {
-    pub number: u8,
-    pub head: PerhapsHead,
 }

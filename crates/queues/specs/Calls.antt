@@ -1,8 +1,6 @@
 -- RULES, Two queues: adding, showing and taking. Refusals in their order, the state after a call, and every byte of the queues.
-use Rattle.std.specs.Prelude.{ℕ, ◌+◌, ◌-◌, Bool, true, false, cond, not, ◌&&◌, ◌||◌, List, [], ◌++◌, eqb, leb, ltb, length, take, drop}
+use Rattle.std.specs.Prelude.{ℕ, ◌+◌, ◌-◌, Bool, true, false, cond, not, ◌&&◌, ◌||◌, List, [], ◌++◌, eqb, leb, ltb, length, take, drop, Option, Some, None}
 use Rattle.replies.specs.Rules.{Rule, ◌if◌, ◌then◌, refusal}
-use Rattle.numbers.specs.declared.Number.{Number}
-use Rattle.numbers.specs.declared.Number.TheVariants.{Good, Broken}
 use Rattle.queues.specs.declared.State.{State}
 use Rattle.queues.specs.declared.Reply.{Reply}
 use Rattle.queues.specs.declared.Shown.{Shown}
@@ -66,9 +64,9 @@ next_rules s control film =
 abbrev pub film_goes : State → Bool
 film_goes s = not (eqb s.film 0) && (eqb s.control 0 || leb 4 s.row)
 
-abbrev pub shown_at : Bool → Number → Shown
-shown_at inFilm (Good n k) = record { number = 0; film = inFilm; at = k; length = n }
-shown_at inFilm Broken = record { number = 0; film = inFilm; at = 0; length = 0 }
+abbrev pub shown_at : Bool → Option (ℕ × ℕ) → Shown
+shown_at inFilm (Some (n, k)) = record { number = 0; film = inFilm; at = k; length = n }
+shown_at inFilm None = record { number = 0; film = inFilm; at = 0; length = 0 }
 
 -- the bytes held in the queue that the next packet goes from
 abbrev pub next_held : State → List ℕ → List ℕ → List ℕ

@@ -1,8 +1,6 @@
 -- RULES, Two queues (queue-packet, queue-held): the packets that a queue's held bytes are, and the walk that decides whether they are
 -- any.
-use Rattle.std.specs.Prelude.{ℕ, zero, suc, ◌+◌, ◌≤◌, ◌<◌, ◌≡◌, ◌↔◌, Bool, true, false, cond, ◌&&◌, ◌||◌, List, [], ◌∷◌, ◌++◌, eqb, leb, length, get_or, take, drop}
-use Rattle.numbers.specs.declared.Number.{Number}
-use Rattle.numbers.specs.declared.Number.TheVariants.{Good, Broken}
+use Rattle.std.specs.Prelude.{ℕ, zero, suc, ◌+◌, ◌≤◌, ◌<◌, ◌≡◌, ◌↔◌, Bool, true, false, cond, ◌&&◌, ◌||◌, List, [], ◌∷◌, ◌++◌, eqb, leb, length, get_or, take, drop, Option, Some, None}
 use Rattle.numbers.specs.Numbers.{number_bytes, read_number}
 
 -- a packet as it stands in a queue, preceded by its length
@@ -33,21 +31,21 @@ pub record Left (held : ℕ) (queue : List ℕ) (ps : List (List ℕ)) : Type 0 
 -- The walk
 
 -- a packet in front of bytes, given its length n and how many bytes this takes: not too long, and not cut
-abbrev pub whole : List ℕ → Number → Number
-whole l (Good n k) = cond (leb n 1280 && leb (k + n) (length l)) (Good n k) Broken
-whole l Broken = Broken
+abbrev pub whole : List ℕ → Option (ℕ × ℕ) → Option (ℕ × ℕ)
+whole l (Some (n, k)) = cond (leb n 1280 && leb (k + n) (length l)) (Some (n, k)) None
+whole l None = None
 
-unfoldable pub front : List ℕ → Number
+unfoldable pub front : List ℕ → Option (ℕ × ℕ)
 front l = whole l (read_number l)
 
-abbrev pub is_good : Number → Bool
-is_good (Good n k) = true
-is_good Broken = false
+abbrev pub is_good : Option (ℕ × ℕ) → Bool
+is_good (Some (n, k)) = true
+is_good None = false
 
 -- how many bytes it takes, with its length
-abbrev pub bytes_of : Number → ℕ
-bytes_of (Good n k) = k + n
-bytes_of Broken = 0
+abbrev pub bytes_of : Option (ℕ × ℕ) → ℕ
+bytes_of (Some (n, k)) = k + n
+bytes_of None = 0
 
 -- from each packet to the one behind it, at most f of them
 unfoldable pub walks : ℕ → List ℕ → Bool

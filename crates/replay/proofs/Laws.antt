@@ -1,6 +1,5 @@
 -- The laws of the day's definitions.
 pub mod Numbers
-pub mod Slots
-pub mod Ways
-pub mod Steps
+pub mod Turns
 pub mod Days
+pub mod Alike

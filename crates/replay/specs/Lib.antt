@@ -1,3 +1,5 @@
 pub mod Replay
 pub mod Day
-pub mod Ways
+pub mod Over
+pub mod Days
+pub mod Within

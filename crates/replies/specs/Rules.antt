@@ -24,11 +24,11 @@ First n [] = ⊥
 First n (r ∷ rs) = ((r.holds ≡ true) × (r.number ≡ n)) ⊎ ((r.holds ≡ false) × First n rs)
 
 -- no rule holds
-abbrev pub None : List Rule → Type 0
-None [] = Unit {0}
-None (r ∷ rs) = (r.holds ≡ false) × None rs
+abbrev pub NoneHolds : List Rule → Type 0
+NoneHolds [] = Unit {0}
+NoneHolds (r ∷ rs) = (r.holds ≡ false) × NoneHolds rs
 
 -- each number is given exactly when its condition holds and no earlier one does, and 0 exactly when none holds
 pub record Exact (rs : List Rule) (given : ℕ) : Type 0 where
   pub number : (n : ℕ) → 0 < n → (given ≡ n) ↔ First n rs
-  pub done : (given ≡ 0) ↔ None rs
+  pub done : (given ≡ 0) ↔ NoneHolds rs

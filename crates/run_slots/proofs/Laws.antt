@@ -1,4 +1,4 @@
--- Finds and Clears are what this crate's two loops keep, and Overlaps what the four searches of `overlapping` come to.
+-- The laws of the run.
 pub mod Finds
 pub mod Overlaps
 pub mod Clears

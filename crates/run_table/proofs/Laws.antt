@@ -1,2 +1,3 @@
--- Alters is what `disable` and `enable` have in common.
-pub mod Alters
+-- The calls on a table over a run, refusal by refusal.
+pub mod Refused
+pub mod Enabling

@@ -1,16 +1,31 @@
-// RULES, A table over a run: what arrives and what leaves, over a head by value and a lent run of link records. What a call decides is
-// decided by `packet_calls`; here the records are looked for and read where they lie. Neither head nor run changes.
+// RULES, A table over a run: what arrives and what leaves, over a head by value and a lent run of link records, which are looked for and
+// read where they lie. Neither head nor run changes.
 #![tactic(auto)]
 
-ghost use Rattle.std.specs.Prelude.{◌≡◌};
-ghost use Rattle.links.specs.Run.{over};
-ghost use Rattle.traffic.specs.Arrives.{indication};
-ghost use Rattle.traffic.specs.Leaves.{request};
-ghost use Rattle.traffic.specs.Run.{PromisedOver, send_over, interface_over};
+pub mod choice;
 
-use links::{Head, LinkIndex, Slot};
-use packet_calls::choosing;
-use traffic::{IndicationHead, InterfaceAddress, Reception, RequestHead, Sending};
+ghost use Rattle.std.specs.Prelude.{◌≡◌, [], ◌++◌};
+ghost use Rattle.replies.specs.Numbers.{reply_number};
+ghost use Rattle.replies.specs.Rules.{refusal, ◌if◌, ◌then◌};
+ghost use Rattle.links.specs.Index.{named};
+ghost use Rattle.links.specs.Run.{over, too_short};
+ghost use Rattle.traffic.specs.Replies.{reception_of, sending_of, address_of};
+ghost use Rattle.traffic.specs.Arrives.{indication};
+ghost use Rattle.traffic.specs.Leaves.{request, request_values};
+ghost use Rattle.traffic.specs.Run.{PromisedOver, choice_rules_over, send_over, interface_over};
+
+use links::{Head, LinkIndex, Named, Slot};
+use replies::Refusal;
+use traffic::{Delivery, Fault, IndicationHead, OwnAddress, RequestHead, Sent};
+
+// What refuses an indication before a link is chosen: 1, 23, 2, 9, 20, 21, 22, 10 in this order.
+fn check(run: &[Slot], head: Head, h: IndicationHead, packet: &[u8]) -> Result<(), Refusal>
+    ensures { reply_number result ≡ refusal (choice_rules_over (over head run.now) (indication h packet.now)) }
+{
+    arrives::check_values(h)?;
+    run_slots::check_length(run, head.max)?;
+    arrives::check_content(h, packet)
+}
 
 pub fn indication(
     run: &[Slot],
@@ -18,30 +33,45 @@ pub fn indication(
     h: IndicationHead,
     packet: &[u8],
     out: &mut [u8],
-) -> Reception
-    ensures { PromisedOver (over head run.now) (indication h packet.now) out.old result out.new }
+) -> Result<Delivery, Fault>
+    ensures { PromisedOver (over head run.now) (indication h packet.now) out.old (reception_of result) out.new }
 {
-    let first = choosing::first(head, run.len(), h, packet);
-    let found = run_slots::find(run, first.count, first.wanted, first.otherwise);
-    let second = choosing::second(first, found, h, packet);
-    let chosen = run_slots::find(run, second.count, second.wanted, second.otherwise);
-    packet_calls::deliver(second.number, chosen.link, h, packet, out)
+    check(run, head, h, packet).map_err(|refusal| Fault::of(refusal, packet))?;
+    arrives::deliver(choice::chosen_for(run, head, h, packet), h, packet, out)
 }
 
-pub fn request(run: &[Slot], head: Head, h: RequestHead, hop: &[u8], packet: &[u8]) -> Sending
-    ensures { result ≡ send_over (over head run.now) (request h hop.now packet.now) }
+// The link that an index names.
+pub fn link_at(run: &[Slot], head: Head, index: LinkIndex) -> Named
+    ensures { result ≡ named (over head run.now) index }
 {
-    let records = run.len();
-    let place = table_calls::slot_place(head.max, records, h.index);
-    let slot = run_slots::record_at(run, place);
-    packet_calls::send(head, records, slot, h, hop, packet)
+    let slot = run_slots::slot_at(run, head.max, index);
+    links::index::link_from(head.tvl, head.dgvl, head.area, index, slot)
 }
 
-pub fn interface_address(run: &[Slot], head: Head, index: LinkIndex) -> InterfaceAddress
-    ensures { result ≡ interface_over (over head run.now) index }
+// What refuses a request before its link is read: 1, 23 in this order.
+fn check_request(run: &[Slot], head: Head, h: RequestHead) -> Result<(), Refusal>
+    ensures { reply_number result ≡ refusal (request_values (request h [] []) ++ (23 if too_short head.max run.now then [])) }
 {
-    let records = run.len();
-    let place = table_calls::slot_place(head.max, records, index);
-    let slot = run_slots::record_at(run, place);
-    packet_calls::address(head, records, slot, index)
+    leaves::check_values(h)?;
+    run_slots::check_length(run, head.max)
+}
+
+pub fn request(
+    run: &[Slot],
+    head: Head,
+    h: RequestHead,
+    hop: &[u8],
+    packet: &[u8],
+) -> Result<Sent, Fault>
+    ensures { sending_of result ≡ send_over (over head run.now) (request h hop.now packet.now) }
+{
+    check_request(run, head, h).map_err(|refusal| Fault::of(refusal, packet))?;
+    leaves::send_on(link_at(run, head, h.index), h, hop, packet)
+}
+
+pub fn interface_address(run: &[Slot], head: Head, index: LinkIndex) -> Result<OwnAddress, Refusal>
+    ensures { address_of result ≡ interface_over (over head run.now) index }
+{
+    run_slots::check_length(run, head.max)?;
+    leaves::address_on(link_at(run, head, index).enabled, head.own)
 }

@@ -1,4 +1,2 @@
--- The laws of a search.
-pub mod Asked
-pub mod Found
-pub mod Overlaps
+-- The laws of the questions.
+pub mod Questions

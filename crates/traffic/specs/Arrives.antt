@@ -1,24 +1,21 @@
 -- RULES, What arrives: the refusals of an indication, the choice of its link in four lines, and what is written.
-use Rattle.std.specs.Prelude.{ℕ, zero, suc, ◌+◌, ◌-◌, ◌^◌, ◌≡◌, Bool, true, false, cond, not, ◌&&◌, ◌||◌, List, [], ◌++◌, eqb, ltb, length, get_or, drop}
+use Rattle.std.specs.Prelude.{ℕ, zero, suc, ◌+◌, ◌-◌, ◌^◌, ◌≡◌, Bool, true, false, cond, not, ◌&&◌, ◌||◌, List, [], ◌++◌, eqb, ltb, length, get_or, drop, None, Option, Some}
 use Rattle.replies.specs.Rules.{Rule, ◌if◌, ◌then◌, refusal}
 use Rattle.area.specs.declared.Area.{Area}
 use Rattle.area.specs.Area.{good_area, same_area}
 use Rattle.ipv6.specs.Packet.{source, destination, packet_rules, fault_place}
 use Rattle.links.specs.declared.Chosen.{Chosen}
 use Rattle.links.specs.declared.LinkIndex.{LinkIndex}
-use Rattle.links.specs.declared.PerhapsLink.{PerhapsLink}
-use Rattle.links.specs.declared.PerhapsLink.TheVariants.{Link as Linked, Nothing as NoLink}
 use Rattle.links.specs.declared.Settings.{Settings}
 use Rattle.links.specs.declared.Slot.{Slot}
 use Rattle.links.specs.declared.Table.{Table}
 use Rattle.links.specs.Settings.{mid_ok, reaches}
 use Rattle.links.specs.Slots.{tvl_index, dgvl_index, index_at, free, counted, any, place, with}
 use Rattle.frames.specs.Frame.{frame}
-use Rattle.traffic.specs.declared.Choice.{Choice}
+use Rattle.traffic.specs.Replies.{Choice, Reception}
 use Rattle.traffic.specs.declared.Destination.{Destination}
 use Rattle.traffic.specs.declared.Destination.TheVariants.{Mid, Within, Nothing}
 use Rattle.traffic.specs.declared.IndicationHead.{IndicationHead}
-use Rattle.traffic.specs.declared.Reception.{Reception}
 
 pub record Indication : Type 0 where
   pub transport : ℕ
@@ -128,17 +125,17 @@ link_index topological = tvl_index
 link_index dynamic = dgvl_index
 link_index (stop k s) = index_at k
 
-abbrev pub index_of : Link → PerhapsLink
-index_of l = Linked (link_index l)
+abbrev pub index_of : Link → Option LinkIndex
+index_of l = Some (link_index l)
 
 -- the link of the indication, as a delivery asks for it
 abbrev pub chosen_for : Table → Indication → Chosen
 chosen_for t x = record { index = link_index (choose (counted t) x); kind = kind_of t (choose (counted t) x) }
 
 -- indication-link: which link an indication would take; none where it is refused, and the room is not asked
-abbrev pub choice_or : ℕ → Indication → PerhapsLink → Choice
+abbrev pub choice_or : ℕ → Indication → Option LinkIndex → Choice
 choice_or zero x link = record { number = 0; place = 0; link = link }
-choice_or (suc n) x link = record { number = suc n; place = fault_place (suc n) x.packet; link = NoLink }
+choice_or (suc n) x link = record { number = suc n; place = fault_place (suc n) x.packet; link = None }
 
 unfoldable pub choice_of : Table → Indication → Choice
 choice_of t x = choice_or (refusal (choice_rules x)) x (index_of (choose (counted t) x))
@@ -164,7 +161,7 @@ pub record Received : Type 0 where
 
 abbrev pub deliver_as : List ℕ → Indication → List ℕ → LinkIndex → Received
 deliver_as w x buffer index = record {
-  reply = record { number = 0; place = 0; link = Linked index; length = length w; source = x.source; class = x.class };
+  reply = record { number = 0; place = 0; link = Some index; length = length w; source = x.source; class = x.class };
   buffer = w ++ drop (length w) buffer;
 }
 
@@ -172,7 +169,7 @@ abbrev pub deliver : Table → Indication → List ℕ → Link → Received
 deliver t x buffer l = deliver_as (frame_or_packet (kind_of t l) x) x buffer (link_index l)
 
 abbrev pub not_received : ℕ → List ℕ → Reception
-not_received n packet = record { number = n; place = fault_place n packet; link = NoLink; length = 0; source = 0; class = 0 }
+not_received n packet = record { number = n; place = fault_place n packet; link = None; length = 0; source = 0; class = 0 }
 
 abbrev pub refuse : ℕ → Indication → List ℕ → Received
 refuse n x buffer = record { reply = not_received n x.packet; buffer = buffer }

@@ -10,7 +10,7 @@ use Rattle.links.specs.Calls.{enable, reply}
 use Rattle.links.specs.Reached.{Reached}
 use Rattle.traffic.specs.Arrives.{Indication, Received, topological, dynamic, stop, at, nowhere, stop_by, by_destination, by_source, index_of, receive, Promised}
 use Rattle.traffic.specs.Run.{PromisedOver}
-use Rattle.traffic.specs.declared.Reception.{Reception}
+use Rattle.traffic.specs.Replies.{Reception}
 
 -- no stop link enabled in the table has these settings
 abbrev pub Lacks : Table → Settings → Type 0

@@ -1,18 +1,17 @@
 -- Rules demand-1 and demand-2, for every call: start, enable, disable, DGVL area and own MID (`links: Demands`),
 -- indication, request and interface address. The last three give back no table: they leave it as it is.
-use Rattle.std.specs.Prelude.{ℕ, ◌+◌, ◌≤◌, ◌≡◌, ◌≢◌, true, List, length, take, drop}
+use Rattle.std.specs.Prelude.{ℕ, ◌+◌, ◌≤◌, ◌≡◌, ◌≢◌, true, List, length, take, drop, None, Some}
 use Rattle.replies.specs.Rules.{Rule, Exact}
-use Rattle.ipv6.specs.Packet.{destination, Placed}
+use Rattle.ipv6.specs.Packet.{Placed}
 use Rattle.ipv6.specs.Identifier.{link_local}
 use Rattle.links.specs.declared.LinkIndex.{LinkIndex}
-use Rattle.links.specs.declared.PerhapsLink.TheVariants.{Link as Linked, Nothing as NoLink}
 use Rattle.links.specs.declared.Slot.{Slot}
 use Rattle.links.specs.declared.Table.{Table}
 use Rattle.links.specs.Slots.{Has, counted}
 use Rattle.links.specs.Index.{enabled_at, named}
 use Rattle.links.specs.Reached.{Reached}
 use Rattle.links.specs.Demands.{TableDemand1, TableDemand2}
-use Rattle.traffic.specs.declared.Sending.{Sending}
+use Rattle.traffic.specs.Replies.{Sending}
 use Rattle.traffic.specs.Arrives.{Indication, Received, Link, topological, dynamic, stop, choose, kind_of, frame_or_packet, choice_rules, choice_of, indication_rules, receive}
 use Rattle.traffic.specs.Leaves.{Request, request_rules, down, send, interface_rules, interface}
 use Rattle.traffic.specs.Run.{indication_rules_over, receive_over, request_rules_over, send_over, interface_rules_over, interface_over}
@@ -24,7 +23,7 @@ use Rattle.traffic.specs.Run.{indication_rules_over, receive_over, request_rules
 pub record RefusesIndication (rs : List Rule) (x : Indication) (buffer : List ℕ) (a : Received) : Type 0 where
   pub exact : Exact rs a.reply.number
   pub place : Placed x.packet a.reply.number a.reply.place
-  pub no_link : a.reply.number ≢ 0 → a.reply.link ≡ NoLink
+  pub no_link : a.reply.number ≢ 0 → a.reply.link ≡ None
   pub no_length : a.reply.number ≢ 0 → a.reply.length ≡ 0
   pub unchanged : a.reply.number ≢ 0 → a.buffer ≡ buffer
 
@@ -32,7 +31,7 @@ pub record RefusesIndication (rs : List Rule) (x : Indication) (buffer : List �
 pub record RefusesChoice (t : Table) (x : Indication) : Type 0 where
   pub exact : Exact (choice_rules x) (choice_of t x).number
   pub place : Placed x.packet (choice_of t x).number (choice_of t x).place
-  pub no_link : (choice_of t x).number ≢ 0 → (choice_of t x).link ≡ NoLink
+  pub no_link : (choice_of t x).number ≢ 0 → (choice_of t x).link ≡ None
 
 -- a request, likewise
 pub record RefusesRequest (rs : List Rule) (q : Request) (a : Sending) : Type 0 where
@@ -69,7 +68,7 @@ link_number (stop k s) = k + 2
 -- an indication that is done: on the link that the four lines choose, its frame or packet, and the rest of the buffer as it was
 pub record Delivers (t : Table) (x : Indication) (buffer : List ℕ) : Type 0 where
   pub is_link : IsLink t (choose (counted t) x)
-  pub link : (receive t x buffer).reply.link ≡ Linked (record { 0 = link_number (choose (counted t) x) })
+  pub link : (receive t x buffer).reply.link ≡ Some (record { 0 = link_number (choose (counted t) x) })
   pub frame_length : (receive t x buffer).reply.length ≡ length (frame_or_packet (kind_of t (choose (counted t) x)) x)
   pub source : (receive t x buffer).reply.source ≡ x.source
   pub class : (receive t x buffer).reply.class ≡ x.class

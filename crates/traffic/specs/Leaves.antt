@@ -1,13 +1,10 @@
 -- RULES, What leaves: the refusals of a request, what is sent down, and the interface address of a link.
-use Rattle.std.specs.Prelude.{ℕ, zero, suc, Bool, true, false, cond, not, ◌&&◌, ◌||◌, List, [], ◌++◌, eqb, length, replicate}
+use Rattle.area.specs.declared.Area.{Area}
+use Rattle.std.specs.Prelude.{ℕ, zero, suc, Bool, true, false, cond, not, ◌&&◌, ◌||◌, List, [], ◌++◌, eqb, length, replicate, None, Option, Some}
 use Rattle.replies.specs.Rules.{Rule, ◌if◌, ◌then◌, refusal}
-use Rattle.ipv6.specs.declared.PerhapsMid.{PerhapsMid}
-use Rattle.ipv6.specs.declared.PerhapsMid.TheVariants.{Mid as Known, Nothing as Unknown}
 use Rattle.ipv6.specs.Address.{multicast, good_hop}
 use Rattle.ipv6.specs.Packet.{destination, packet_rules, fault_place}
 use Rattle.ipv6.specs.Identifier.{mid_of, link_local}
-use Rattle.links.specs.declared.PerhapsArea.{PerhapsArea}
-use Rattle.links.specs.declared.PerhapsArea.TheVariants.{Set, Unset}
 use Rattle.links.specs.declared.Interface.{Interface}
 use Rattle.links.specs.declared.LinkIndex.{LinkIndex}
 use Rattle.links.specs.declared.Named.{Named}
@@ -17,14 +14,13 @@ use Rattle.links.specs.Slots.{tvl_index, dgvl_index, counted}
 use Rattle.links.specs.Index.{enabled_at, named}
 use Rattle.traffic.specs.declared.Destination.{Destination}
 use Rattle.traffic.specs.declared.Destination.TheVariants.{Mid, Within, Nothing}
-use Rattle.traffic.specs.declared.InterfaceAddress.{InterfaceAddress}
+use Rattle.traffic.specs.Replies.{InterfaceAddress, Sending}
 use Rattle.traffic.specs.declared.RequestHead.{RequestHead}
-use Rattle.traffic.specs.declared.Sending.{Sending}
 
 pub record Request : Type 0 where
   pub index : LinkIndex
   pub class : ℕ
-  pub neighbour : PerhapsMid
+  pub neighbour : Option ℕ
   pub next_hop : List ℕ
   pub packet : List ℕ
 
@@ -35,21 +31,21 @@ request h next_hop packet = record { index = h.index; class = h.class; neighbour
 
 -- neighbour-mid: where the next hop is good, the MID comes from it on kind 3, or with flag 1; with flag 0 on kinds 1 and 2 it is the
 -- MID given
-unfoldable pub neighbour_of : Interface → PerhapsMid → List ℕ → PerhapsMid
-neighbour_of f given hop = cond (good_hop hop) (cond (eqb f.kind 3 || eqb f.flag 1) (mid_of hop) given) Unknown
+unfoldable pub neighbour_of : Interface → Option ℕ → List ℕ → Option ℕ
+neighbour_of f given hop = cond (good_hop hop) (cond (eqb f.kind 3 || eqb f.flag 1) (mid_of hop) given) None
 
 -- multicast-out: TSB without destination on the TVL, GeoBroadcast to the link's area on the others
 pub record Down : Type 0 where
   pub transport : ℕ
   pub destination : Destination
 
-abbrev pub within : PerhapsArea → Destination
-within (Set a) = Within a
-within Unset = Nothing
+abbrev pub within : Option Area → Destination
+within (Some a) = Within a
+within None = Nothing
 
-abbrev pub to_neighbour : PerhapsMid → Destination
-to_neighbour (Known m) = Mid m
-to_neighbour Unknown = Nothing
+abbrev pub to_neighbour : Option ℕ → Destination
+to_neighbour (Some m) = Mid m
+to_neighbour None = Nothing
 
 unfoldable pub down : Named → Request → Down
 down l q =
@@ -61,17 +57,17 @@ down l q =
 
 -- Refusals
 
-abbrev pub neighbour_ok : PerhapsMid → Bool
-neighbour_ok (Known m) = mid_ok m
-neighbour_ok Unknown = true
+abbrev pub neighbour_ok : Option ℕ → Bool
+neighbour_ok (Some m) = mid_ok m
+neighbour_ok None = true
 
-abbrev pub is_unset : PerhapsArea → Bool
-is_unset (Set a) = false
-is_unset Unset = true
+abbrev pub is_unset : Option Area → Bool
+is_unset (Some a) = false
+is_unset None = true
 
-abbrev pub is_unknown : PerhapsMid → Bool
-is_unknown (Known m) = false
-is_unknown Unknown = true
+abbrev pub is_unknown : Option ℕ → Bool
+is_unknown (Some m) = false
+is_unknown None = true
 
 -- request-refusals. 11: multicast on the DGVL without an area; 12: neighbour not resolvable
 unfoldable pub resolve_rules : Named → Request → List Rule

@@ -1,3 +1,4 @@
+pub mod Replies
 pub mod Arrives
 pub mod Leaves
 pub mod Run

@@ -8,9 +8,7 @@ use Rattle.links.specs.Slots.{counted}
 use Rattle.links.specs.Index.{enabled_at, named}
 use Rattle.links.specs.Run.{too_short}
 use Rattle.links.specs.Layouts.{Alike}
-use Rattle.traffic.specs.declared.InterfaceAddress.{InterfaceAddress}
-use Rattle.traffic.specs.declared.Reception.{Reception}
-use Rattle.traffic.specs.declared.Sending.{Sending}
+use Rattle.traffic.specs.Replies.{InterfaceAddress, Reception, Sending}
 use Rattle.traffic.specs.Arrives.{Indication, Received, indication_values, content_rules, room_rules, choose, deliver, unless, receive}
 use Rattle.traffic.specs.Leaves.{Request, request_values, link_rules, sending, send, interface_rules, answer_interface, interface}
 

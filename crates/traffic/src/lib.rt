@@ -2,9 +2,13 @@
 // and demand 3 is proved here of the definitions, for every layout of the table.
 #![tactic(auto)]
 
+ghost use Rattle.std.specs.Prelude.{◌≡◌};
+ghost use Rattle.replies.specs.Numbers.{number_of};
+ghost use Rattle.ipv6.specs.Packet.{fault_place};
+
 use area::Area;
-use ipv6::PerhapsMid;
-use links::{LinkIndex, PerhapsLink};
+use links::LinkIndex;
+use replies::Refusal;
 
 // The transports of GeoNetworking.
 pub const GEO_UNICAST: u8 = 1;
@@ -26,6 +30,7 @@ pub enum Destination {
 // An indication but for its packet, which is lent beside it.
 #[derive(Clone, Copy)]
 pub struct IndicationHead {
+    // a number, since a transport outside the list is an input that 1 answers (right_sort; the clause of arrives::check_values)
     pub transport: u8,
     pub source: u64,
     pub class: u8,
@@ -37,43 +42,49 @@ pub struct IndicationHead {
 pub struct RequestHead {
     pub index: LinkIndex,
     pub class: u8,
-    pub neighbour: PerhapsMid,
+    pub neighbour: Option<u64>,
 }
 
-// What an indication answers; what is written stands in the lent buffer. The place is that of a fault in its packet.
+// Why a call with a packet is refused, and the place of the fault in the packet: 0 where none is bad.
 #[derive(Clone, Copy)]
-pub struct Reception {
-    pub number: u8,
+pub struct Fault {
+    pub refusal: Refusal,
     pub place: usize,
-    pub link: PerhapsLink,
+}
+
+impl Fault {
+    // Of a call that is refused with this packet.
+    pub fn of(refusal: Refusal, packet: &[u8]) -> Fault
+        ensures { result ≡ record { refusal = refusal; place = fault_place (number_of refusal) packet.now } }
+    {
+        Fault {
+            refusal,
+            place: ipv6::fault_place(refusal, packet),
+        }
+    }
+}
+
+// What an indication gives a link; what is written stands in the lent buffer.
+#[derive(Clone, Copy)]
+pub struct Delivery {
+    pub link: LinkIndex,
     pub length: usize,
     pub source: u64,
     pub class: u8,
 }
 
-// What the question for the link of an indication answers, where no buffer is lent.
+// What a request sends down to GeoNetworking with its packet.
 #[derive(Clone, Copy)]
-pub struct Choice {
-    pub number: u8,
-    pub place: usize,
-    pub link: PerhapsLink,
-}
-
-// What a request answers: what goes down to GeoNetworking with its packet.
-#[derive(Clone, Copy)]
-pub struct Sending {
-    pub number: u8,
-    pub place: usize,
+pub struct Sent {
     pub transport: u8,
     pub destination: Destination,
     pub class: u8,
     pub length: usize,
 }
 
-// What the question for the interface address of a link answers.
+// The interface address of a link, and the MID that it is built from.
 #[derive(Clone, Copy)]
-pub struct InterfaceAddress {
-    pub number: u8,
+pub struct OwnAddress {
     pub mid: u64,
     pub address: [u8; 16],
 }

@@ -1,3 +1,2 @@
--- The laws of what calls change.
-pub mod Changes
-pub mod Decided
+-- What a table over a run answers for a table by value.
+pub mod Lent

@@ -1,4 +1,6 @@
 -- What the program writes is the listing.
+use Rattle.links.specs.declared.LinkIndex.{LinkIndex}
+use Rattle.std.specs.Prelude.{None, Option, Some}
 use Prim.Native.Nat.{ℕ, suc, ◌*◌, ◌/◌, ◌≤◌}
 use native.Mathlib.Omega.{arith}
 use mathlib.Core.Path.{◌≡◌, refl, sym, ◌∙◌, ap}
@@ -7,8 +9,6 @@ use mathlib.Core.List.{List, [], ◌∷◌, ◌++◌}
 use lib.ListN.{length, take, drop, replicate, length-append, length-replicate}
 use lib.Seq.{take_at}
 use borrow.Author.Tests.{leb-true, le-leb}
-use Rattle.links.specs.declared.PerhapsLink.{PerhapsLink}
-use Rattle.links.specs.declared.PerhapsLink.TheVariants.{Link, Nothing}
 use Rattle.links.specs.Slots.{free}
 use Rattle.replay.specs.declared.Line.{Line}
 use Rattle.replay.specs.Day.{day, given, index_in, all_numbers, in_front}
@@ -17,13 +17,13 @@ use Rattle.replay.proofs.Laws.Days.{few-lines, few}
 use Rattle.listing.specs.Text.{header, link_from, lines_from, joined, text_of}
 use Rattle.listing.specs.Room.{written_of}
 use Rattle.listing.proofs.Laws.Whole.{whole-text}
-use Rattle.record_calls.specs.Over.{answer_over, day_over}
+use Rattle.replay.specs.Over.{answer_over, day_over}
 use Rattle.daylist.specs.Listing.{lent, day_as, day_into, lines_of, lines_text, listing, Prints}
 
-link-back : (link : PerhapsLink) → link_from (given link) (index_in link) ≡ link
+link-back : (link : Option LinkIndex) → link_from (given link) (index_in link) ≡ link
 unfolding link_from
-link-back (Link index) = refl
-link-back Nothing = refl
+link-back (Some index) = refl
+link-back None = refl
 
 text_of-numbers : (k : ℕ) (lines : List Line) → joined (lines_from k (all_numbers lines)) ≡ lines_text k lines
 unfolding joined lines_from all_numbers lines_text

@@ -1,19 +1,15 @@
 -- `leaves::request_on` meets its contract.
-use mathlib.Core.Path.{sym, ◌∙◌}
+use Rattle.std.specs.Prelude.{Err}
+use mathlib.Core.Path.{sym, ◌∙◌, ap}
+use Rattle.traffic.specs.declared.Fault.{Fault}
+use Rattle.traffic.specs.Replies.{sending_of}
 use Rattle.traffic.specs.Leaves.{request, request_values}
-use Rattle.traffic.proofs.Laws.Send.{named-refused, named_on}
+use Rattle.traffic.proofs.Laws.Send.{named_refused}
 use Rattle.leaves.proofs.request_on.Goals as goal
 
-pub returns-then-number-ne-DONE : goal.returns-then-number-ne-DONE
+pub returns-in-Err : goal.returns-in-Err
 unfolding request_values
-returns-then-number-ne-DONE c =
+returns-in-Err c =
     let args = c.args in
-    let bad = c.request_values_refusal-number in
-    c.not_sent.ensures ∙ sym (named-refused args.link (request args.h args.hop.now args.packet.now) bad.result bad.ensures c.if-number-ne-DONE.true)
-
-pub returns : goal.returns
-unfolding request_values
-returns c =
-    let args = c.args in
-    let bad = c.request_values_refusal-number in
-    c.send_on.ensures ∙ sym (named_on args.link (request args.h args.hop.now args.packet.now) (sym bad.ensures ∙ c.if-number-ne-DONE.false))
+    ap (λ (f : Fault). sending_of (Err f)) c.of.ensures
+    ∙ sym (named_refused args.link (request args.h args.hop.now args.packet.now) c.in-Err.refusal c.in-Err.ensures)

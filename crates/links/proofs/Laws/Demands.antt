@@ -1,4 +1,6 @@
 -- Demands 1 and 2 for the calls that alter the table.
+use Rattle.area.specs.declared.Area.{Area}
+use Rattle.std.specs.Prelude.{None, Option, Some}
 use Prim.Native.Nat.{ℕ, zero, suc, ◌-◌, ◌<◌}
 use native.Mathlib.Omega.{arith}
 use mathlib.Core.Path.{◌≡◌, refl, sym, ◌∙◌, ap, subst}
@@ -8,15 +10,12 @@ use mathlib.Core.List.{List}
 use lib.ListN.{length, drop, get_or, set, length-set, length-take}
 use lib.Seq.{get_or-set_same, get_or-set_other, drop-set-lt}
 use borrow.Author.Tests.{ltb-true, ltb-false, not-true, not-false}
-use Rattle.replies.specs.Rules.{Rule, refusal, None, Exact}
+use Rattle.replies.specs.Rules.{Rule, refusal, NoneHolds, Exact}
 use Rattle.replies.proofs.Laws.Refusals.{Numbered, done-exactly, none_right, exact}
 use Rattle.prefixes.proofs.Laws.Listed.{listed_kept, kept-blank}
 use Rattle.links.specs.declared.Head.{Head}
 use Rattle.links.specs.declared.LinkIndex.{LinkIndex}
-use Rattle.links.specs.declared.PerhapsArea.{PerhapsArea}
-use Rattle.links.specs.declared.PerhapsHead.TheVariants.{Given, Nothing as NoHead}
-use Rattle.links.specs.declared.PerhapsLink.TheVariants.{Nothing}
-use Rattle.links.specs.declared.Reply.{Reply}
+use Rattle.links.specs.Replies.{Reply}
 use Rattle.links.specs.declared.Settings.{Settings}
 use Rattle.links.specs.declared.Slot.{Slot}
 use Rattle.links.specs.declared.StartValues.{StartValues}
@@ -40,7 +39,7 @@ number_is : (n : ℕ) (t : Table) (c : TableCall) → (answer n t c).number ≡ 
 number_is zero t c = refl
 number_is (suc n) t c = refl
 
-unchanged : (n : ℕ) (t : Table) (c : TableCall) → (answer n t c).number ≢ 0 → ((answer n t c).table ≡ t) × ((answer n t c).link ≡ Nothing)
+unchanged : (n : ℕ) (t : Table) (c : TableCall) → (answer n t c).number ≢ 0 → ((answer n t c).table ≡ t) × ((answer n t c).link ≡ None)
 unchanged zero t c h = absurd (h refl)
 unchanged (suc n) t c h = (refl, refl)
 
@@ -78,12 +77,12 @@ fresh_without_stops memory v = record {
 }
 
 begin-refused : (n : ℕ) (memory : List Slot) (v : StartValues) → (begin n memory v).number ≢ 0
-    → ((begin n memory v).link ≡ Nothing) × WithoutStops memory plain_start (begin n memory v).table
+    → ((begin n memory v).link ≡ None) × WithoutStops memory plain_start (begin n memory v).table
 begin-refused zero memory v h = absurd (h refl)
 begin-refused (suc n) memory v h = (refl, fresh_without_stops memory plain_start)
 
 begin-done : (n : ℕ) (memory : List Slot) (v : StartValues) → (begin n memory v).number ≡ 0
-    → ((begin n memory v).link ≡ Nothing) × WithoutStops memory v (begin n memory v).table
+    → ((begin n memory v).link ≡ None) × WithoutStops memory v (begin n memory v).table
 begin-done zero memory v e = (refl, fresh_without_stops memory v)
 begin-done (suc n) memory v e = absurd (omega arith)
 
@@ -101,12 +100,12 @@ begin_over-number : (n : ℕ) (run : List Slot) (v : StartValues) → (begin_ove
 begin_over-number zero run v = refl
 begin_over-number (suc n) run v = refl
 
-begin_over-refused : (n : ℕ) (run : List Slot) (v : StartValues) → (begin_over n run v).number ≢ 0 → ((begin_over n run v).head ≡ NoHead) × ((begin_over n run v).run ≡ run)
+begin_over-refused : (n : ℕ) (run : List Slot) (v : StartValues) → (begin_over n run v).number ≢ 0 → ((begin_over n run v).head ≡ None) × ((begin_over n run v).run ≡ run)
 begin_over-refused zero run v h = absurd (h refl)
 begin_over-refused (suc n) run v h = (refl, refl)
 
 begin_over-done : (n : ℕ) (run : List Slot) (v : StartValues) → (begin_over n run v).number ≡ 0
-    → ((begin_over n run v).head ≡ Given (fresh_head v)) × WithoutStops run v (over (fresh_head v) (begin_over n run v).run)
+    → ((begin_over n run v).head ≡ Some (fresh_head v)) × WithoutStops run v (over (fresh_head v) (begin_over n run v).run)
 unfolding fresh
 begin_over-done zero run v e = (refl, fresh_without_stops run v)
 begin_over-done (suc n) run v e = absurd (omega arith)
@@ -144,7 +143,7 @@ module _ (t : Table) (c : TableCall) (e : (reply t c).number ≡ 0) where
   unfolding reply
   zero_given = sym (number_is (refusal (rules (counted t) c)) t c) ∙ e
 
-  none-holds : None (rules (counted t) c)
+  none-holds : NoneHolds (rules (counted t) c)
   none-holds = (done-exactly (rules (counted t) c) (numbered (counted t) c)).0 zero_given
 
   table_is : (reply t c).table ≡ table_after t c
@@ -216,7 +215,7 @@ module _ (most : ℕ) (memory : List Slot) (t : Table) (h : Sound most memory t)
       }
 
 -- own MID and area are set, and nothing else
-sets : (t : Table) (c : TableCall) (mid : ℕ) (a : PerhapsArea) → (reply t c).link ≡ Nothing → (reply t c).table ≡ with_area (with_own t mid) a → Sets t c mid a
+sets : (t : Table) (c : TableCall) (mid : ℕ) (a : Option Area) → (reply t c).link ≡ None → (reply t c).table ≡ with_area (with_own t mid) a → Sets t c mid a
 sets t c mid a none e = record {
   no_link = none;
   own = ap (λ (u : Table). u.own) e;

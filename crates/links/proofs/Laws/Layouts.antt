@@ -1,4 +1,5 @@
 -- Which tables over a run calls reach, what a call touches of the run, and that both layouts answer alike.
+use Rattle.std.specs.Prelude.{None, Option, Some}
 use Prim.Native.Nat.{ℕ, zero, suc, ◌+◌, ◌-◌, ◌≤◌}
 use native.Mathlib.Omega.{arith}
 use mathlib.Core.Path.{◌≡◌, refl, sym, ◌∙◌, ap, subst}
@@ -13,11 +14,7 @@ use Rattle.replies.specs.Rules.{refusal}
 use Rattle.replies.proofs.Laws.Refusals.{done-exactly, none_right}
 use Rattle.links.specs.declared.Head.{Head}
 use Rattle.links.specs.declared.LinkIndex.{LinkIndex}
-use Rattle.links.specs.declared.PerhapsHead.{PerhapsHead}
-use Rattle.links.specs.declared.PerhapsHead.TheVariants.{Given, Nothing as NoHead}
-use Rattle.links.specs.declared.PerhapsLink.{PerhapsLink}
-use Rattle.links.specs.declared.PerhapsLink.TheVariants.{Link, Nothing}
-use Rattle.links.specs.declared.Reply.{Reply}
+use Rattle.links.specs.Replies.{Reply}
 use Rattle.links.specs.declared.Slot.{Slot}
 use Rattle.links.specs.declared.StartValues.{StartValues}
 use Rattle.links.specs.declared.Table.{Table}
@@ -32,16 +29,16 @@ use Rattle.links.proofs.Laws.Run.{numbered_over, as_every_table, start-long-enou
 
 -- Reached
 
-head_in : Head → PerhapsHead → Head
-head_in h (Given k) = k
-head_in h NoHead = h
+head_in : Head → Option Head → Head
+head_in h (Some k) = k
+head_in h None = h
 
-is_none : PerhapsHead → Type 0
-is_none (Given k) = ⊥
-is_none NoHead = Unit {0}
+is_none : Option Head → Type 0
+is_none (Some k) = ⊥
+is_none None = Unit {0}
 
 -- what a start over a run gives, by its number
-begun-head : (n : ℕ) (run : List Slot) (v : StartValues) (h : Head) → (begin_over n run v).head ≡ Given h → (n ≡ 0) × (h ≡ fresh_head v)
+begun-head : (n : ℕ) (run : List Slot) (v : StartValues) (h : Head) → (begin_over n run v).head ≡ Some h → (n ≡ 0) × (h ≡ fresh_head v)
 unfolding head_in is_none
 begun-head zero run v h e = (refl, sym (ap (head_in h) e))
 begun-head (suc n) run v h e = absurd (subst is_none e tt)
@@ -79,7 +76,7 @@ reached_in_run first h run = (reached_there first, reached_back first)
 -- What a call touches
 
 abbrev OwnBy : Reply → TableCall → ℕ → Type 0
-OwnBy r (enable s) j = r.link ≡ Link (record { 0 = j + 2 })
+OwnBy r (enable s) j = r.link ≡ Some (record { 0 = j + 2 })
 OwnBy r (disable i) j = i.0 ≡ j + 2
 OwnBy r (set_area a) j = ⊥
 OwnBy r (set_own m) j = ⊥
@@ -102,7 +99,7 @@ module _ (t : Table) where
       → get_or (answer n t c).table.slots j free ≡ get_or t.slots j free
   unfolding table_after link_after
   others zero (enable s) e j other =
-      get_or-set_other t.slots (place unused (counted t)) j (in_use (stored s)) free (λ is. other (ap (λ (k : ℕ). Link (record { 0 = k + 2 })) (sym is)))
+      get_or-set_other t.slots (place unused (counted t)) j (in_use (stored s)) free (λ is. other (ap (λ (k : ℕ). Some (record { 0 = k + 2 })) (sym is)))
   others zero (disable i) e j other =
       let stop = a-stop i e in
       get_or-set_other t.slots (place_of i) j free free (λ is. other (omega (arith, is, stop)))
@@ -220,7 +217,7 @@ module _ (run : List Slot) (v : StartValues) (small : v.max ≤ 65) (long : too_
       }
 
   by_start : (n : ℕ) → (begin n value_slots v).number ≡ 0
-      → (h : Head) × ((begin_over n run v).head ≡ Given h) × Alike (begin n value_slots v).table (over h (begin_over n run v).run)
+      → (h : Head) × ((begin_over n run v).head ≡ Some h) × Alike (begin n value_slots v).table (over h (begin_over n run v).run)
   by_start zero e = (fresh_head v, refl, fresh-alike)
   by_start (suc n) e = absurd (omega arith)
 
@@ -235,7 +232,7 @@ module _ (run : List Slot) (v : StartValues) (small : v.max ≤ 65) (long : too_
       record {
         number = number-alike n ∙ ap (λ (m : ℕ). (begin_over m run v).number) same-rules;
         table = λ e.
-            subst (λ (m : ℕ). (h : Head) × ((begin_over m run v).head ≡ Given h) × Alike (begin n value_slots v).table (over h (begin_over m run v).run)) same-rules
+            subst (λ (m : ℕ). (h : Head) × ((begin_over m run v).head ≡ Some h) × Alike (begin n value_slots v).table (over h (begin_over m run v).run)) same-rules
             (by_start n e);
       }
 

@@ -1,4 +1,5 @@
 -- What a call answers, by the number that its rules give.
+use Rattle.std.specs.Prelude.{None}
 use Prim.Native.Nat.{ℕ, zero, suc, ◌<◌}
 use native.Mathlib.Omega.{arith}
 use mathlib.Core.Path.{◌≡◌, refl, sym, ap}
@@ -7,7 +8,6 @@ use mathlib.Core.List.{List}
 use lib.Dec.{lit<}
 use Rattle.replies.specs.Rules.{refusal}
 use Rattle.replies.proofs.Laws.Refusals.{Numbered, numbered_append}
-use Rattle.links.specs.declared.PerhapsLink.TheVariants.{Nothing}
 use Rattle.links.specs.declared.Settings.{Settings}
 use Rattle.links.specs.declared.Slot.{Slot}
 use Rattle.links.specs.declared.StartValues.{StartValues}
@@ -16,7 +16,7 @@ use Rattle.links.specs.Settings.{settings_values, ground_rules, settings_rules}
 use Rattle.links.specs.Slots.{counted}
 use Rattle.links.specs.Calls.{TableCall, enable, disable, set_area, set_own, slot_rules, rules, link_after, table_after, answer, reply, start_values, plain_start, fresh, begin, start}
 
-pub refused : (t : Table) (c : TableCall) (n : ℕ) → 0 < n → refusal (rules (counted t) c) ≡ n → reply t c ≡ record { number = n; link = Nothing; table = t }
+pub refused : (t : Table) (c : TableCall) (n : ℕ) → 0 < n → refusal (rules (counted t) c) ≡ n → reply t c ≡ record { number = n; link = None; table = t }
 unfolding reply
 refused t c zero h e = absurd (omega arith)
 refused t c (suc n) h e = ap (λ (m : ℕ). answer m t c) e
@@ -53,12 +53,12 @@ unfolding start_values
 start_numbered most v = (lit< tt, (lit< tt, tt))
 
 pub start-refused : (most : ℕ) (memory : List Slot) (v : StartValues) (n : ℕ) → n ≡ refusal (start_values most v) → n ≢ 0
-    → start most memory v ≡ record { number = n; link = Nothing; table = fresh memory plain_start }
+    → start most memory v ≡ record { number = n; link = None; table = fresh memory plain_start }
 unfolding start
 start-refused most memory v zero e h = absurd (h refl)
 start-refused most memory v (suc n) e h = ap (λ (m : ℕ). begin m memory v) (sym e)
 
 pub start-done : (most : ℕ) (memory : List Slot) (v : StartValues) → refusal (start_values most v) ≡ 0
-    → start most memory v ≡ record { number = 0; link = Nothing; table = fresh memory v }
+    → start most memory v ≡ record { number = 0; link = None; table = fresh memory v }
 unfolding start
 start-done most memory v e = ap (λ (m : ℕ). begin m memory v) e

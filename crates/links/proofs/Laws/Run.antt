@@ -10,7 +10,13 @@ use borrow.Author.Tests.{le-ltb}
 use Rattle.replies.specs.Rules.{Rule, ◌if◌, ◌then◌, refusal}
 use Rattle.replies.specs.Promise.{DeterminesBoth}
 use Rattle.replies.proofs.Laws.Refusals.{Numbered, numbered_append, passed_over, refusal-again}
-use Rattle.links.specs.declared.Reply.{Reply}
+use Rattle.std.specs.Prelude.{Option, Some, Result}
+use Rattle.replies.specs.declared.Refusal.{Refusal}
+use Rattle.replies.specs.Numbers.{reply_number}
+use Rattle.replies.proofs.Laws.Numbers.{same_reply}
+use Rattle.links.specs.declared.Head.{Head}
+use Rattle.links.specs.declared.LinkIndex.{LinkIndex}
+use Rattle.links.specs.Replies.{Reply, link_given, head_given}
 use Rattle.links.specs.declared.Slot.{Slot}
 use Rattle.links.specs.declared.StartValues.{StartValues}
 use Rattle.links.specs.declared.Table.{Table}
@@ -22,7 +28,7 @@ use Rattle.links.specs.Run.{head_of, too_short, values_of, rules_over, reply_ove
 use Rattle.links.proofs.Laws.Replies.{values_numbered, numbered, start_numbered}
 use Rattle.links.proofs.Laws.Sound.{sound}
 
-calls-values_numbered : (c : TableCall) → Numbered (values_of c)
+pub calls-values_numbered : (c : TableCall) → Numbered (values_of c)
 calls-values_numbered (enable s) = values_numbered s
 calls-values_numbered (disable i) = tt
 calls-values_numbered (set_area a) = tt
@@ -67,14 +73,22 @@ reached_long {t = t} r =
     let room : length (counted t) ≡ t.max - 1 = (sound r).room in
     le-ltb (length t.slots) (t.max - 1) (omega (arith, length-take (t.max - 1) t.slots, room))
 
+-- answers that give the same number and link are the same
+same_answer : (a b : Result (Option LinkIndex) Refusal) → reply_number a ≡ reply_number b → link_given a ≡ link_given b → a ≡ b
+same_answer a b number link = same_reply a b number (λ x y p q. ap link_given (sym p) ∙ link ∙ ap link_given q)
+
+same_start : (a b : Result Head Refusal) → reply_number a ≡ reply_number b → head_given a ≡ head_given b → a ≡ b
+same_start a b number head = same_reply a b number (λ x y p q. let same : Some x ≡ Some y = ap head_given (sym p) ∙ head ∙ ap head_given q in cc)
+
 -- what a call over a run promises determines its reply and the run that it leaves
 pub left_determined : (q : Reply) → DeterminesBoth (Left q)
 left_determined q r s run left p e =
     let same = p ∙ sym e in
+    let answer = same_answer r.answer s.answer (ap (λ (x : Reply). x.number) same) (ap (λ (x : Reply). x.link) same) in
     let table = ap (λ (x : Reply). x.table) same in
-    (λ i. record { number = (same i).number; link = (same i).link; head = head_of (same i).table }, ap (λ (t : Table). t.slots) table)
+    (λ i. record { answer = answer i; head = head_of (table i) }, ap (λ (t : Table). t.slots) table)
 
 pub begins_determined : (q : Started) → DeterminesBoth (Begins q)
 begins_determined q r s run left p e =
     let same = p ∙ sym e in
-    (λ i. record { number = (same i).number; head = (same i).head }, ap (λ (x : Started). x.run) same)
+    (same_start r s (ap (λ (x : Started). x.number) same) (ap (λ (x : Started). x.head) same), ap (λ (x : Started). x.run) same)

@@ -1,4 +1,6 @@
 -- Every table that calls reach is sound.
+use Rattle.area.specs.declared.Area.{Area}
+use Rattle.std.specs.Prelude.{Option}
 use Prim.Native.Nat.{ℕ, zero, suc, ◌-◌, ◌^◌, ◌≤◌, ◌<◌}
 use native.Mathlib.Omega.{arith}
 use mathlib.Core.Path.{◌≡◌, refl, sym, ◌∙◌, subst}
@@ -10,10 +12,9 @@ use lib.Dec.{lit≤}
 use lib.ListN.{length, take, set, get_or, length-take}
 use borrow.Author.Tests.{leb-true, ltb-true, not-false}
 use Rattle.octets.proofs.Laws.Tests.{clash}
-use Rattle.replies.specs.Rules.{refusal, None}
+use Rattle.replies.specs.Rules.{refusal, NoneHolds}
 use Rattle.replies.proofs.Laws.Refusals.{done-exactly, none_left, none_right}
 use Rattle.links.specs.declared.LinkIndex.{LinkIndex}
-use Rattle.links.specs.declared.PerhapsArea.{PerhapsArea}
 use Rattle.links.specs.declared.Settings.{Settings}
 use Rattle.links.specs.declared.Slot.{Slot}
 use Rattle.links.specs.declared.StartValues.{StartValues}
@@ -66,7 +67,7 @@ module _ (most : ℕ) (memory : List Slot) where
         rest = cleared-rest (max - 1) memory;
       }
 
-  enable_sound : (t : Table) (s : Settings) → Sound most memory t → None (rules (counted t) (enable s)) → Sound most memory (with_slot t (place unused (counted t)) (in_use (stored s)))
+  enable_sound : (t : Table) (s : Settings) → Sound most memory t → NoneHolds (rules (counted t) (enable s)) → Sound most memory (with_slot t (place unused (counted t)) (in_use (stored s)))
   unfolding rules slot_rules
   enable_sound t s h n =
       let l = counted t in
@@ -109,7 +110,7 @@ module _ (most : ℕ) (memory : List Slot) where
           go (inl x) = subst A x.1 new
           go (inr y) = old j r y
 
-  disable_sound : (t : Table) (i : LinkIndex) → Sound most memory t → None (rules (counted t) (disable i)) → Sound most memory (with_slot t (place_of i) free)
+  disable_sound : (t : Table) (i : LinkIndex) → Sound most memory t → NoneHolds (rules (counted t) (disable i)) → Sound most memory (with_slot t (place_of i) free)
   unfolding rules
   disable_sound t i h n =
       let l = counted t in
@@ -140,7 +141,7 @@ module _ (most : ℕ) (memory : List Slot) where
       }
 
   -- another own MID or area of the dynamic link, and nothing else
-  head_sound : (t : Table) (m : ℕ) (a : PerhapsArea) → m < 2 ^ 48 → good_dynamic a ≡ true → Sound most memory t
+  head_sound : (t : Table) (m : ℕ) (a : Option Area) → m < 2 ^ 48 → good_dynamic a ≡ true → Sound most memory t
       → Sound most memory (with_area (with_own t m) a)
   head_sound t m a own area h =
       record {
@@ -163,7 +164,7 @@ module _ (most : ℕ) (memory : List Slot) where
         rest = h.rest;
       }
 
-  after : (t : Table) (c : TableCall) → Sound most memory t → None (rules (counted t) c) → Sound most memory (table_after t c)
+  after : (t : Table) (c : TableCall) → Sound most memory t → NoneHolds (rules (counted t) c) → Sound most memory (table_after t c)
   unfolding table_after rules
   after t (enable s) h n = enable_sound t s h n
   after t (disable i) h n = disable_sound t i h n

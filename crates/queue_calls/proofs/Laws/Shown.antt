@@ -1,4 +1,5 @@
 -- What showing answers, by the tests of the code; and that what it shows lies in its queue.
+use Rattle.std.specs.Prelude.{Option, Some, None}
 use Prim.Native.Nat.{ℕ, zero, suc, ◌+◌, ◌≤◌}
 use native.Mathlib.Omega.{arith}
 use mathlib.Core.Path.{◌≡◌, refl, sym, ◌∙◌, ap, subst}
@@ -9,8 +10,6 @@ use lib.Dec.{eqb}
 use lib.ListN.{length, take, drop, length-take}
 use borrow.Author.Tests.{eqb-true, ne_eqb}
 use Rattle.replies.specs.Rules.{◌if◌, ◌then◌, refusal}
-use Rattle.numbers.specs.declared.Number.{Number}
-use Rattle.numbers.specs.declared.Number.TheVariants.{Good, Broken}
 use Rattle.queues.specs.declared.State.{State}
 use Rattle.queues.specs.declared.Shown.{Shown}
 use Rattle.queues.specs.Packets.{front, good}
@@ -27,9 +26,9 @@ module _ (s : State) (control film : List ℕ) where
   unfolding show
   next_is n goes e z g = rw (← e, z, g)
 
-shown-number : (film : Bool) (r : Number) → (shown_at film r).number ≡ 0
-shown-number film (Good n k) = refl
-shown-number film Broken = refl
+shown-number : (film : Bool) (r : Option (ℕ × ℕ)) → (shown_at film r).number ≡ 0
+shown-number film (Some (n, k)) = refl
+shown-number film None = refl
 
 -- What a packet that is shown lies in: the bytes held in its queue, and these in the queue, which is of its size
 pub record Lies (d : Shown) (s : State) (control film : List ℕ) : Type 0 where
@@ -44,18 +43,18 @@ both_good s control film e = go (good s.control control && good s.film film) ref
     go true p q = simp and-eq-true_iff at p
     go false p q = absurd (let z : ◌≡◌ {A = ℕ} 37 0 = q in omega arith)
 
-in_held : (held : ℕ) (queue : List ℕ) (r : Number) (film : Bool) → front (take held queue) ≡ r → (shown_at film r).at + (shown_at film r).length ≤ held
-in_held held queue (Good n k) film e = omega (arith, (front-within (take held queue) n k e).1, length-take held queue)
-in_held held queue Broken film e = omega arith
+in_held : (held : ℕ) (queue : List ℕ) (r : Option (ℕ × ℕ)) (film : Bool) → front (take held queue) ≡ r → (shown_at film r).at + (shown_at film r).length ≤ held
+in_held held queue (Some (n, k)) film e = omega (arith, (front-within (take held queue) n k e).1, length-take held queue)
+in_held held queue None film e = omega arith
 
 pub lies : (s : State) (control film : List ℕ) → (show s control film).number ≡ 0 → Lies (show s control film) s control film
 lies s control film e = go (refusal (next_rules s control film)) refl
   where
-    there : (goes : Bool) (r : Number) → refusal (next_rules s control film) ≡ 0 → front (cond goes (take s.film film) (take s.control control)) ≡ r → Lies (shown_at goes r) s control film
-    there true (Good n k) z p = record { held_within = in_held s.film film (Good n k) true p; fits = good-fits s.film film (both_good s control film z).1 }
-    there true Broken z p = record { held_within = in_held s.film film Broken true p; fits = good-fits s.film film (both_good s control film z).1 }
-    there false (Good n k) z p = record { held_within = in_held s.control control (Good n k) false p; fits = good-fits s.control control (both_good s control film z).0 }
-    there false Broken z p = record { held_within = in_held s.control control Broken false p; fits = good-fits s.control control (both_good s control film z).0 }
+    there : (goes : Bool) (r : Option (ℕ × ℕ)) → refusal (next_rules s control film) ≡ 0 → front (cond goes (take s.film film) (take s.control control)) ≡ r → Lies (shown_at goes r) s control film
+    there true (Some (n, k)) z p = record { held_within = in_held s.film film (Some (n, k)) true p; fits = good-fits s.film film (both_good s control film z).1 }
+    there true None z p = record { held_within = in_held s.film film None true p; fits = good-fits s.film film (both_good s control film z).1 }
+    there false (Some (n, k)) z p = record { held_within = in_held s.control control (Some (n, k)) false p; fits = good-fits s.control control (both_good s control film z).0 }
+    there false None z p = record { held_within = in_held s.control control None false p; fits = good-fits s.control control (both_good s control film z).0 }
 
     go : (n : ℕ) → refusal (next_rules s control film) ≡ n → Lies (show s control film) s control film
     go zero z = subst (λ (d : Shown). Lies d s control film) (next_is s control film 0 (film_goes s) (sym z) refl refl) (there (film_goes s) _ z refl)

@@ -1,4 +1,5 @@
 -- The walk over held bytes, by place: one turn, and each way out.
+use Rattle.std.specs.Prelude.{Option, Some, None}
 use Prim.Native.Nat.{ℕ, suc, ◌+◌, ◌-◌, ◌≤◌, ◌<◌}
 use native.Mathlib.Omega.{arith}
 use mathlib.Core.Path.{◌≡◌, refl, sym, ◌∙◌, ap, subst}
@@ -8,8 +9,6 @@ use lib.Dec.{eqb}
 use lib.ListN.{length, drop, length-drop}
 use lib.Seq.{drop-drop}
 use borrow.Author.Tests.{eq-eqb, ne_eqb}
-use Rattle.numbers.specs.declared.Number.{Number}
-use Rattle.numbers.specs.declared.Number.TheVariants.{Good, Broken}
 use Rattle.numbers.specs.Numbers.{shifted}
 use Rattle.queues.specs.Packets.{front, is_good, bytes_of, walks}
 use Rattle.queues.proofs.Laws.Packets.{front-within, walks-enough}
@@ -29,10 +28,10 @@ pub ends : (l : List ℕ) → length l ≡ 0 → true ≡ walked l
 unfolding walks
 ends l e = sym (ap (λ (x : ℕ). walks x l) e ∙ eq-eqb (length l) 0 e)
 
-pub stops : (l : List ℕ) → 0 < length l → front l ≡ Broken → false ≡ walked l
+pub stops : (l : List ℕ) → 0 < length l → front l ≡ None → false ≡ walked l
 stops l h e = sym (turn l (length l - 1) (some l h) ∙ rw e)
 
-pub goes_on : (l : List ℕ) (n k : ℕ) → front l ≡ Good n k → walked l ≡ walked (drop (k + n) l)
+pub goes_on : (l : List ℕ) (n k : ℕ) → front l ≡ Some (n, k) → walked l ≡ walked (drop (k + n) l)
 goes_on l n k e =
     let w = front-within l n k e in
     let shorter : length (drop (k + n) l) ≤ length l - 1 = omega (arith, w.0, length-drop (k + n) l) in
@@ -44,12 +43,12 @@ pub record Found (l : List ℕ) (at n start : ℕ) : Type 0 where
   pub within : start + n ≤ length l
   pub rest : walked (drop at l) ≡ walked (drop (start + n) l)
 
-pub found : (l : List ℕ) (at n start : ℕ) → at ≤ length l → shifted at (front (drop at l)) ≡ Good n start → Found l at n start
+pub found : (l : List ℕ) (at n start : ℕ) → at ≤ length l → shifted at (front (drop at l)) ≡ Some (n, start) → Found l at n start
 found l at n start h e = go (front (drop at l)) refl e
   where
-    go : (r : Number) → front (drop at l) ≡ r → shifted at r ≡ Good n start → Found l at n start
-    go Broken p q = absurd (let z : ◌≡◌ {A = ℕ} 0 1 = cc in omega arith)
-    go (Good m k) p q =
+    go : (r : Option (ℕ × ℕ)) → front (drop at l) ≡ r → shifted at r ≡ Some (n, start) → Found l at n start
+    go None p q = absurd (let z : ◌≡◌ {A = ℕ} 0 1 = cc in omega arith)
+    go (Some (m, k)) p q =
         let number : m ≡ n = cc in
         let place : at + k ≡ start = cc in
         let w = front-within (drop at l) m k p in
@@ -61,9 +60,9 @@ found l at n start h e = go (front (drop at l)) refl e
           rest = goes_on (drop at l) m k p ∙ ap walked (drop-drop (k + m) at l ∙ ap (λ (x : ℕ). drop x l) behind);
         }
 
-pub not_found : (l : List ℕ) (at : ℕ) → at < length l → shifted at (front (drop at l)) ≡ Broken → false ≡ walked (drop at l)
+pub not_found : (l : List ℕ) (at : ℕ) → at < length l → shifted at (front (drop at l)) ≡ None → false ≡ walked (drop at l)
 not_found l at h e = go (front (drop at l)) refl e
   where
-    go : (r : Number) → front (drop at l) ≡ r → shifted at r ≡ Broken → false ≡ walked (drop at l)
-    go Broken p q = stops (drop at l) (omega (arith, length-drop at l)) p
-    go (Good m k) p q = absurd (let z : ◌≡◌ {A = ℕ} 0 1 = cc in omega arith)
+    go : (r : Option (ℕ × ℕ)) → front (drop at l) ≡ r → shifted at r ≡ None → false ≡ walked (drop at l)
+    go None p q = stops (drop at l) (omega (arith, length-drop at l)) p
+    go (Some (m, k)) p q = absurd (let z : ◌≡◌ {A = ℕ} 0 1 = cc in omega arith)

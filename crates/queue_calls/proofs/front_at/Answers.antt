@@ -1,9 +1,9 @@
 -- `queue_calls::front_at` meets its contract.
+use Rattle.std.specs.Prelude.{}
 use native.Mathlib.Omega.{arith}
 use mathlib.Core.Path.{◌≡◌, sym, ◌∙◌}
 use borrow.Author.Rules.{rules}
 use Rattle.numbers.specs.Numbers.{read_at}
-use Rattle.numbers.specs.declared.Number.TheVariants.{Good}
 use Rattle.queue_calls.proofs.Laws.Front.{broken, too_long, cut, there, read_there}
 use Rattle.queue_calls.proofs.front_at.Goals as goal
 

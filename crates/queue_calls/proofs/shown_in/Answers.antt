@@ -1,19 +1,18 @@
 -- `queue_calls::shown_in` meets its contract.
+use Rattle.std.specs.Prelude.{Option, Some, None}
 use Prim.Native.Nat.{ℕ}
 use native.Mathlib.Omega.{arith}
 use native.Mathlib.Nat.{zero-add}
 use mathlib.Core.Path.{◌≡◌, refl, sym, ◌∙◌, ap}
 use borrow.Author.Rules.{rules}
-use Rattle.numbers.specs.declared.Number.{Number}
-use Rattle.numbers.specs.declared.Number.TheVariants.{Good, Broken}
 use Rattle.numbers.specs.Numbers.{shifted}
 use Rattle.queues.specs.Packets.{front}
 use Rattle.queues.specs.Calls.{shown_at}
 use Rattle.queue_calls.proofs.shown_in.Goals as goal
 
-at_front : (r : Number) → shifted 0 r ≡ r
-at_front (Good n k) = ap (λ (x : ℕ). Good n x) (zero-add k)
-at_front Broken = refl
+at_front : (r : Option (ℕ × ℕ)) → shifted 0 r ≡ r
+at_front (Some (n, k)) = ap (λ (x : ℕ). Some (n, x)) (zero-add k)
+at_front None = refl
 
 pub returns-in-Good : goal.returns-in-Good
 returns-in-Good c =

@@ -1,5 +1,6 @@
 -- One call on a channel in which packets wait: adding puts its packet last, taking takes the one that is shown from the front of its
 -- queue, and nothing else changes. So in every channel that calls reach packets wait, and adding leaves all that can wait.
+use Rattle.std.specs.Prelude.{Some}
 use Prim.Native.Nat.{ℕ, zero, suc, ◌+◌, ◌-◌, ◌≤◌}
 use native.Mathlib.Omega.{arith}
 use mathlib.Core.Path.{◌≡◌, refl, sym, ◌∙◌, ap, subst₂}
@@ -12,7 +13,6 @@ use lib.Seq.{length-take-le, take_at, drop_at}
 use borrow.Author.Tests.{leb-true, leb-false, ltb-false, le-ltb, lt-leb, eq-eqb, ne_eqb}
 use Rattle.replies.specs.Rules.{refusal}
 use Rattle.replies.proofs.Laws.Refusals.{done-exactly}
-use Rattle.numbers.specs.declared.Number.TheVariants.{Good}
 use Rattle.numbers.specs.Numbers.{number_bytes}
 use Rattle.queues.specs.declared.State.{State}
 use Rattle.queues.specs.declared.Shown.{Shown}
@@ -98,7 +98,7 @@ module _ {held : ℕ} {queue p : List ℕ} {ps : List (List ℕ)} (h : Left held
   unfolding queued
   some_held e = omega (arith, held-are h, length-append (packed p) (queued ps), packed_some p)
 
-  pub next-front : front (take held queue) ≡ Good (length p) (begins p)
+  pub next-front : front (take held queue) ≡ Some (length p, begins p)
   unfolding queued
   next-front = rw h.holds.are (front-packed p (queued ps) h.holds.short.0)
 
@@ -144,7 +144,7 @@ next_some {c} w (inr h) = rw (left_good w.control, left_good w.film, ne_eqb c.st
 
 -- what is shown is the packet in front of the queue that goes
 shows : (s : State) (control film : List ℕ) (g : Bool) (p : List ℕ) → refusal (next_rules s control film) ≡ 0 → film_goes s ≡ g
-    → front (cond g (take s.film film) (take s.control control)) ≡ Good (length p) (begins p)
+    → front (cond g (take s.film film) (take s.control control)) ≡ Some (length p, begins p)
     → show s control film ≡ record { number = 0; film = g; at = begins p; length = length p }
 unfolding show
 shows s control film g p done goes is = rw (done, goes) (ap (shown_at g) is)

@@ -1,5 +1,6 @@
 -- The packets that a queue's held bytes are: what stands in front of bytes, how far the walk goes, that it decides exactly which bytes
 -- packets are, and that bytes are the packets of one list only.
+use Rattle.std.specs.Prelude.{Option, Some, None}
 use Prim.Native.Nat.{ℕ, zero, suc, ◌+◌, ◌-◌, ◌/◌, ◌%◌, ◌≤◌, ◌<◌}
 use native.Mathlib.Omega.{arith}
 use mathlib.Core.Path.{◌≡◌, refl, sym, ◌∙◌, ap}
@@ -11,8 +12,6 @@ use lib.Seq.{length-take-le, take-add, take_at, drop_at, get_or-drop}
 use Rattle.octets.proofs.Laws.Tests.{clash}
 use Rattle.octets.proofs.Laws.Digits.{below_part}
 use borrow.Author.Tests.{le-leb, leb-true, eqb-true, eq-eqb}
-use Rattle.numbers.specs.declared.Number.{Number}
-use Rattle.numbers.specs.declared.Number.TheVariants.{Good, Broken}
 use Rattle.numbers.specs.Numbers.{groups, number_bytes, read_number}
 use Rattle.numbers.proofs.Laws.Written.{written-reads, reads-written, read_length}
 use Rattle.queues.specs.Packets.{packed, queued, Short, Holds, Left, whole, front, is_good, bytes_of, walks, good, Bytes, DecidesExactly, OneMeaning}
@@ -43,12 +42,12 @@ short-append (p ∷ ps) qs h k = (h.0, short-append ps qs h.1 k)
 
 -- The packet in front
 
-whole-good : (l : List ℕ) (r : Number) (n k : ℕ) → whole l r ≡ Good n k → (r ≡ Good n k) × (k + n ≤ length l) × (n ≤ 1280)
-whole-good l Broken n k e = absurd (let z : ◌≡◌ {A = ℕ} 0 1 = cc in omega arith)
-whole-good l (Good m j) n k e = go (leb m 1280) refl (leb (j + m) (length l)) refl e
+whole-good : (l : List ℕ) (r : Option (ℕ × ℕ)) (n k : ℕ) → whole l r ≡ Some (n, k) → (r ≡ Some (n, k)) × (k + n ≤ length l) × (n ≤ 1280)
+whole-good l None n k e = absurd (let z : ◌≡◌ {A = ℕ} 0 1 = cc in omega arith)
+whole-good l (Some (m, j)) n k e = go (leb m 1280) refl (leb (j + m) (length l)) refl e
   where
-    go : (s : Bool) → leb m 1280 ≡ s → (t : Bool) → leb (j + m) (length l) ≡ t → cond (s && t) (Good m j) Broken ≡ Good n k
-        → (Good m j ≡ Good n k) × (k + n ≤ length l) × (n ≤ 1280)
+    go : (s : Bool) → leb m 1280 ≡ s → (t : Bool) → leb (j + m) (length l) ≡ t → cond (s && t) (Some (m, j)) None ≡ Some (n, k)
+        → (Some (m, j) ≡ Some (n, k)) × (k + n ≤ length l) × (n ≤ 1280)
     go true p true q e =
         let n-is : m ≡ n = cc in
         let k-is : j ≡ k = cc in
@@ -57,14 +56,14 @@ whole-good l (Good m j) n k e = go (leb m 1280) refl (leb (j + m) (length l)) re
     go false p t q e = absurd (let z : ◌≡◌ {A = ℕ} 0 1 = cc in omega arith)
 
 -- it takes at least one byte, and no more than there are
-pub front-within : (l : List ℕ) (n k : ℕ) → front l ≡ Good n k → (0 < k) × (k + n ≤ length l) × (n ≤ 1280)
+pub front-within : (l : List ℕ) (n k : ℕ) → front l ≡ Some (n, k) → (0 < k) × (k + n ≤ length l) × (n ≤ 1280)
 unfolding front
 front-within l n k e =
     let w = whole-good l (read_number l) n k e in
     ((read_length l n k w.0).0, w.1, w.2)
 
 -- a packet with its length in front is read back, with any bytes behind it
-pub front-packed : (p rest : List ℕ) → length p ≤ 1280 → front (packed p ++ rest) ≡ Good (length p) (length (number_bytes (length p)))
+pub front-packed : (p rest : List ℕ) → length p ≤ 1280 → front (packed p ++ rest) ≡ Some (length p, length (number_bytes (length p)))
 unfolding front packed
 front-packed p rest h =
     let k = length (number_bytes (length p)) in
@@ -72,7 +71,7 @@ front-packed p rest h =
     rw (append_assoc (number_bytes (length p)) p rest, written-reads (length p) (p ++ rest) (omega arith), le-leb (length p) 1280 h, le-leb (k + length p) _ fits)
 
 -- and what is read in front is a packet with its length
-pub front_splits : (l : List ℕ) (n k : ℕ) → Bytes l → front l ≡ Good n k → (l ≡ packed (take n (drop k l)) ++ drop (k + n) l) × (length (take n (drop k l)) ≡ n)
+pub front_splits : (l : List ℕ) (n k : ℕ) → Bytes l → front l ≡ Some (n, k) → (l ≡ packed (take n (drop k l)) ++ drop (k + n) l) × (length (take n (drop k l)) ≡ n)
 unfolding front packed
 front_splits l n k b e =
     let w = whole-good l (read_number l) n k e in
@@ -88,11 +87,11 @@ walks-alike zero (suc g) l h k = rw (eq-eqb (length l) 0 (omega arith))
 walks-alike (suc f) zero l h k = rw (eq-eqb (length l) 0 (omega arith))
 walks-alike (suc f) (suc g) l h k = go (eqb (length l) 0) (front l) refl (walks-alike f g (drop (bytes_of (front l)) l))
   where
-    go : (t : Bool) (r : Number) → front l ≡ r → (length (drop (bytes_of (front l)) l) ≤ f → length (drop (bytes_of (front l)) l) ≤ g → walks f (drop (bytes_of (front l)) l) ≡ walks g (drop (bytes_of (front l)) l))
+    go : (t : Bool) (r : Option (ℕ × ℕ)) → front l ≡ r → (length (drop (bytes_of (front l)) l) ≤ f → length (drop (bytes_of (front l)) l) ≤ g → walks f (drop (bytes_of (front l)) l) ≡ walks g (drop (bytes_of (front l)) l))
         → (t || is_good (front l) && walks f (drop (bytes_of (front l)) l)) ≡ (t || is_good (front l) && walks g (drop (bytes_of (front l)) l))
     go true r e ih = refl
-    go false Broken e ih = rw e
-    go false (Good n m) e ih =
+    go false None e ih = rw e
+    go false (Some (n, m)) e ih =
         let some = (front-within l n m e).0 in
         let less : length (drop (bytes_of (front l)) l) ≡ length l - (m + n) = rw e (length-drop (m + n) l) in
         ap (λ (w : Bool). is_good (front l) && w) (ih (omega arith) (omega arith))
@@ -113,15 +112,15 @@ walks-holds (suc f) l b e =
     go (eqb (length l) 0) refl (front l) refl e
     (λ h. walks-holds f (drop (bytes_of (front l)) l) (λ i. rw get_or-drop (b (bytes_of (front l) + i))) h)
   where
-    go : (t : Bool) → eqb (length l) 0 ≡ t → (r : Number) → front l ≡ r → (t || is_good (front l) && walks f (drop (bytes_of (front l)) l)) ≡ true
+    go : (t : Bool) → eqb (length l) 0 ≡ t → (r : Option (ℕ × ℕ)) → front l ≡ r → (t || is_good (front l) && walks f (drop (bytes_of (front l)) l)) ≡ true
         → (walks f (drop (bytes_of (front l)) l) ≡ true → (ps : List (List ℕ)) × Holds (drop (bytes_of (front l)) l) ps)
         → (ps : List (List ℕ)) × Holds l ps
     go true t r p e ih = ([], none_hold l (eqb-true (length l) 0 t))
-    go false t Broken p e ih = clash ((and-eq-true_iff _ _).0 e).0 (ap is_good p)
-    go false t (Good n k) p e ih =
+    go false t None p e ih = clash ((and-eq-true_iff _ _).0 e).0 (ap is_good p)
+    go false t (Some (n, k)) p e ih =
         let behind = ih ((and-eq-true_iff (is_good (front l)) (walks f (drop (bytes_of (front l)) l))).0 e).1 in
         let parts = front_splits l n k b p in
-        let rest : drop (k + n) l ≡ queued behind.0 = ap (λ (r : Number). drop (bytes_of r) l) (sym p) ∙ behind.1.are in
+        let rest : drop (k + n) l ≡ queued behind.0 = ap (λ (r : Option (ℕ × ℕ)). drop (bytes_of r) l) (sym p) ∙ behind.1.are in
         let few = (front-within l n k p).2 in
         (take n (drop k l) ∷ behind.0, record { are = parts.0 ∙ rw rest; short = (omega (arith, parts.1), behind.1.short) })
 

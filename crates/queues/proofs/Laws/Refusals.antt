@@ -1,4 +1,5 @@
 -- Which number adding, showing and taking answer, in the rules' words, and that what is refused changes nothing.
+use Rattle.std.specs.Prelude.{Option, Some, None}
 use Prim.Native.Nat.{ℕ, zero, suc, ◌+◌, ◌/◌, ◌≤◌, ◌<◌}
 use native.Mathlib.Omega.{arith}
 use mathlib.Core.Path.{◌≡◌, refl, sym, ◌∙◌}
@@ -11,8 +12,6 @@ use borrow.Author.Tests.{not-true, not-false, lt-ltb, le-ltb, ltb-true, ltb-fals
 use Rattle.octets.proofs.Laws.Tests.{clash}
 use Rattle.replies.specs.Rules.{Rule, refusal, Exact}
 use Rattle.replies.proofs.Laws.Refusals.{exact}
-use Rattle.numbers.specs.declared.Number.{Number}
-use Rattle.numbers.specs.declared.Number.TheVariants.{Good, Broken}
 use Rattle.numbers.specs.Numbers.{groups}
 use Rattle.queues.specs.declared.State.{State}
 use Rattle.queues.specs.Packets.{packed, front, good, Bytes, DecidesExactly}
@@ -128,9 +127,9 @@ packet_needs p = record {
 
 -- Showing and taking
 
-shown-number : (f : Bool) (r : Number) → (shown_at f r).number ≡ 0
-shown-number f (Good n k) = refl
-shown-number f Broken = refl
+shown-number : (f : Bool) (r : Option (ℕ × ℕ)) → (shown_at f r).number ≡ 0
+shown-number f (Some (n, k)) = refl
+shown-number f None = refl
 
 pub show-number : (s : State) (control film : List ℕ) → (show s control film).number ≡ refusal (next_rules s control film)
 unfolding show

@@ -5,7 +5,7 @@ use mathlib.Core.Path.{◌≡◌, refl, sym, ◌∙◌, ap}
 use mathlib.Core.Logic.{inl, inr, ◌↔◌, ◌≢◌}
 use mathlib.Core.Bool.{Bool, true, false, cond}
 use mathlib.Core.List.{List, [], ◌∷◌, ◌++◌}
-use Rattle.replies.specs.Rules.{Rule, ◌if◌, ◌then◌, refusal, First, None, Exact}
+use Rattle.replies.specs.Rules.{Rule, ◌if◌, ◌then◌, refusal, First, NoneHolds, Exact}
 
 -- no rule has the number 0, which means done
 abbrev pub Numbered : List Rule → Type 0
@@ -30,18 +30,18 @@ given-exactly rs n h = (there rs, back rs)
     back (r ∷ rs) (inr p) = rw p.0 (back rs p.1)
 
 -- a call is done exactly when no rule holds
-pub done-exactly : (rs : List Rule) → Numbered rs → (refusal rs ≡ 0) ↔ None rs
+pub done-exactly : (rs : List Rule) → Numbered rs → (refusal rs ≡ 0) ↔ NoneHolds rs
 done-exactly rs k = (there rs k, back rs)
   where
-    there : (rs : List Rule) → Numbered rs → refusal rs ≡ 0 → None rs
+    there : (rs : List Rule) → Numbered rs → refusal rs ≡ 0 → NoneHolds rs
     there [] k e = tt
     there (r ∷ rs) k e = go r.holds refl e (there rs k.1)
       where
-        go : (t : Bool) → r.holds ≡ t → cond t r.number (refusal rs) ≡ 0 → (refusal rs ≡ 0 → None rs) → None (r ∷ rs)
+        go : (t : Bool) → r.holds ≡ t → cond t r.number (refusal rs) ≡ 0 → (refusal rs ≡ 0 → NoneHolds rs) → NoneHolds (r ∷ rs)
         go true p e f = absurd (omega (arith, k.0))
         go false p e f = (p, f e)
 
-    back : (rs : List Rule) → None rs → refusal rs ≡ 0
+    back : (rs : List Rule) → NoneHolds rs → refusal rs ≡ 0
     back [] h = refl
     back (r ∷ rs) h = rw h.0 (back rs h.1)
 
@@ -55,16 +55,16 @@ refusal_more rs more n h e = (given-exactly (rs ++ more) n h).1 (longer rs ((giv
     longer (r ∷ rs) (inr p) = inr (p.0, longer rs p.1)
 
 -- what a list lets through, the next decides
-pub refusal-next : (rs more : List Rule) → None rs → refusal (rs ++ more) ≡ refusal more
+pub refusal-next : (rs more : List Rule) → NoneHolds rs → refusal (rs ++ more) ≡ refusal more
 refusal-next [] more h = refl
 refusal-next (r ∷ rs) more h = rw h.0 (refusal-next rs more h.1)
 
 -- what a longer list lets through, its beginning does
-pub none_left : (rs more : List Rule) → None (rs ++ more) → None rs
+pub none_left : (rs more : List Rule) → NoneHolds (rs ++ more) → NoneHolds rs
 none_left [] more h = tt
 none_left (r ∷ rs) more h = (h.0, none_left rs more h.1)
 
-pub none_right : (rs more : List Rule) → None (rs ++ more) → None more
+pub none_right : (rs more : List Rule) → NoneHolds (rs ++ more) → NoneHolds more
 none_right [] more h = h
 none_right (r ∷ rs) more h = none_right rs more h.1
 

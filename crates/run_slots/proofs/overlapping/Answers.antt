@@ -1,14 +1,17 @@
 -- `run_slots::overlapping` meets its contract.
-use Rattle.run_slots.proofs.Laws.Overlaps.{found_for, all_told}
+use mathlib.Core.Path.{◌∙◌}
+use lib.ListN.{take}
+use Rattle.std.proofs.Common.{arith, rules, tests}
+use Rattle.std.proofs.lemmas.Iterator.{YieldsList-from_range}
+use Rattle.std.proofs.lemmas.Iterator.Search.{any_from_yields_List}
+use Rattle.run_slots.proofs.Laws.Overlaps.{asked_at, one_is_asked}
 use Rattle.run_slots.proofs.overlapping.Goals as goal
 
 pub returns : goal.returns
 returns c =
-    let ys = c.args.run.now in
+    let l = take c.args.count c.args.run.now in
     let s = c.args.s in
-    let none = c.no_link-none.result in
-    all_told c.args.count ys s none
-    (found_for c.args.count ys s none 0 c.count_for.ensures c.prefix_asked.ensures c.find-first.ensures)
-    (found_for c.args.count ys s none 1 c.count_for-2.ensures c.prefix_asked-2.ensures c.find-second.ensures)
-    (found_for c.args.count ys s none 2 c.count_for-3.ensures c.prefix_asked-3.ensures c.find-third.ensures)
-    (found_for c.args.count ys s none 3 c.count_for-4.ensures c.prefix_asked-4.ensures c.find-fourth.ensures)
+    any_from_yields_List (asked_at l s) _ _ _ c.any.ensures.ran
+    (YieldsList-from_range 0 c.min-listed.result c.min-listed.result (cc) (omega arith))
+    (λ x b q k. search (rules, tests))
+    ∙ one_is_asked l s _ c.min-listed.ensures

@@ -22,7 +22,7 @@ use Rattle.links.proofs.Laws.Sound.{sound}
 use Rattle.links.proofs.Laws.Run.{reached_long}
 use Rattle.traffic.specs.declared.Destination.{Destination}
 use Rattle.traffic.specs.declared.Destination.TheVariants.{Mid, Within, Nothing}
-use Rattle.traffic.specs.declared.Reception.{Reception}
+use Rattle.traffic.specs.Replies.{Reception}
 use Rattle.traffic.specs.Arrives.{Indication, Received, Link, topological, dynamic, stop, PerhapsStop, at, nowhere, stop_by, is_area, by_area, by_destination, by_source, failing, choose, frame_or_packet, deliver_as, deliver, unless, indication_rules, receive, Promised}
 use Rattle.traffic.specs.Demand3.{Lacks, Wider, OnStop, Follows, refuses_alike, topological_stays, stop_stays, stop_moves, dynamic_stays, dynamic_moves, Demand3, Returned, by_value, over_run, Demand3OfCalls}
 use Rattle.traffic.proofs.Laws.Run.{received-alike}

@@ -1,4 +1,5 @@
 -- Demands 1 and 2, proved for every call.
+use Rattle.std.specs.Prelude.{None, Option, Some}
 use Prim.Native.Nat.{ℕ, zero, suc, ◌+◌, ◌≤◌}
 use native.Mathlib.Omega.{arith}
 use mathlib.Core.Path.{◌≡◌, refl, sym, ◌∙◌, ap, subst}
@@ -16,17 +17,13 @@ use Rattle.ipv6.specs.Identifier.{link_local}
 use Rattle.ipv6.proofs.Laws.Packet.{placed}
 use Rattle.links.specs.declared.LinkIndex.{LinkIndex}
 use Rattle.links.specs.declared.Named.{Named}
-use Rattle.links.specs.declared.PerhapsLink.{PerhapsLink}
-use Rattle.links.specs.declared.PerhapsLink.TheVariants.{Link as Linked, Nothing as NoLink}
 use Rattle.links.specs.declared.Settings.{Settings}
 use Rattle.links.specs.declared.Table.{Table}
 use Rattle.links.specs.Slots.{counted}
 use Rattle.links.specs.Index.{enabled_at, named}
 use Rattle.links.proofs.Laws.Demands.{table_demand_1, table_demand_2}
 use Rattle.links.proofs.Laws.Run.{reached_long}
-use Rattle.traffic.specs.declared.Choice.{Choice}
-use Rattle.traffic.specs.declared.InterfaceAddress.{InterfaceAddress}
-use Rattle.traffic.specs.declared.Sending.{Sending}
+use Rattle.traffic.specs.Replies.{Choice, InterfaceAddress, Sending}
 use Rattle.traffic.specs.Arrives.{Indication, Received, Link, topological, dynamic, stop, PerhapsStop, at, nowhere, stop_by, by_area, by_destination, by_source, failing, choose, kind_of, index_of, chosen_for, choice_rules, choice_or, choice_of, frame_or_packet, deliver, refuse, unless, indication_rules, receive}
 use Rattle.traffic.specs.Leaves.{Request, request_values, link_rules, request_rules, sending, send, interface_rules, answer_interface, interface_on, interface}
 use Rattle.traffic.specs.Run.{indication_rules_over, receive_over, request_rules_over, send_over, interface_rules_over, interface_over}
@@ -80,16 +77,16 @@ unfolding receive_over Given
 refuses-indication-over t x buffer = refuses_by t x buffer (indication_rules_over t x (length buffer)) (indication-over_numbered t x (length buffer))
 
 module _ (t : Table) (x : Indication) where
-  number-chosen : (n : ℕ) (l : PerhapsLink) → (choice_or n x l).number ≡ n
+  number-chosen : (n : ℕ) (l : Option LinkIndex) → (choice_or n x l).number ≡ n
   number-chosen zero l = refl
   number-chosen (suc n) l = refl
 
-  place-chosen : (n : ℕ) (l : PerhapsLink) → Placed x.packet (choice_or n x l).number (choice_or n x l).place
+  place-chosen : (n : ℕ) (l : Option LinkIndex) → Placed x.packet (choice_or n x l).number (choice_or n x l).place
   unfolding fault_place
   place-chosen zero l = placed x.packet 0
   place-chosen (suc n) l = placed x.packet (suc n)
 
-  none-chosen : (n : ℕ) (l : PerhapsLink) → (choice_or n x l).number ≢ 0 → (choice_or n x l).link ≡ NoLink
+  none-chosen : (n : ℕ) (l : Option LinkIndex) → (choice_or n x l).number ≢ 0 → (choice_or n x l).link ≡ None
   none-chosen zero l h = absurd (h refl)
   none-chosen (suc n) l h = refl
 
@@ -181,7 +178,7 @@ chosen-link t x = first (eqb x.transport 4)
     first true = tt
     first false = by (by_area x) _ (by (by_destination x) _ (by (by_source x) dynamic tt))
 
-by_number : (l : Link) → index_of l ≡ Linked (record { 0 = link_number l })
+by_number : (l : Link) → index_of l ≡ Some (record { 0 = link_number l })
 by_number topological = refl
 by_number dynamic = refl
 by_number (stop k s) = refl

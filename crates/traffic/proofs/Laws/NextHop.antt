@@ -1,4 +1,5 @@
 -- What the next hop of a request decides.
+use Rattle.std.specs.Prelude.{Option}
 use Prim.Native.Nat.{ℕ, zero, suc}
 use mathlib.Core.Path.{◌≡◌, refl, sym, ◌∙◌, ap}
 use mathlib.Core.Logic.{◌≢◌}
@@ -6,9 +7,8 @@ use mathlib.Core.Bool.{Bool, true, false}
 use mathlib.Core.List.{List, ◌++◌}
 use lib.ListN.{length}
 use Rattle.octets.proofs.Laws.Tests.{clash}
-use Rattle.replies.specs.Rules.{Rule, None, refusal}
+use Rattle.replies.specs.Rules.{Rule, NoneHolds, refusal}
 use Rattle.replies.proofs.Laws.Refusals.{none_right}
-use Rattle.ipv6.specs.declared.PerhapsMid.{PerhapsMid}
 use Rattle.ipv6.specs.Address.{multicast, good_hop}
 use Rattle.ipv6.specs.Packet.{destination, packet_rules}
 use Rattle.ipv6.proofs.Laws.Hops.{good_hops}
@@ -19,7 +19,7 @@ use Rattle.traffic.specs.Leaves.{Request, Down, to_neighbour, request_values, re
 use Rattle.traffic.specs.NextHop.{Nobodys, other_length, unspecified, loopback, many, by_hop, of_packet, NextHops}
 use Rattle.traffic.specs.Demands.{Demand1}
 use Rattle.traffic.proofs.Laws.Demands.{demand_1, sends}
-use Rattle.traffic.proofs.Laws.Send.{neighbour-nobody, many-down, one_down}
+use Rattle.traffic.proofs.Laws.Send.{neighbour_nobody, many-down, one_down}
 
 not_good : (hop : List ℕ) → Nobodys hop → good_hop hop ≡ false
 not_good hop n = go (good_hop hop) refl n
@@ -40,8 +40,8 @@ alike q hop (suc n) l e = refl
 pub nobody-alike : (l : Named) (q : Request) (hop : List ℕ) → good_hop q.next_hop ≡ false → good_hop hop ≡ false → send_named l (by_hop q hop) ≡ send_named l q
 unfolding send_named request_values link_rules resolve_rules
 nobody-alike l q hop e f =
-    let now-none = neighbour-nobody l.interface q.neighbour q.next_hop e in
-    let then-none = neighbour-nobody l.interface q.neighbour hop f in
+    let now-none = neighbour_nobody l.interface q.neighbour q.next_hop e in
+    let then-none = neighbour_nobody l.interface q.neighbour hop f in
     let rules : request_values (by_hop q hop) ++ link_rules l (by_hop q hop) ≡ request_values q ++ link_rules l q = rw (now-none, then-none) in
     ap (λ (rs : List Rule). sending (refusal rs) l (by_hop q hop)) rules
     ∙ alike q hop (refusal (request_values q ++ link_rules l q)) l (same-down (multicast (destination q.packet)) refl)
@@ -50,12 +50,12 @@ nobody-alike l q hop e f =
     same-down true e = many-down l (by_hop q hop) e ∙ sym (many-down l q e)
     same-down false one =
         one_down l (by_hop q hop) one
-        ∙ ap (λ (m : PerhapsMid). record { transport = 1; destination = to_neighbour m }) (neighbour-nobody l.interface q.neighbour hop f ∙ sym (neighbour-nobody l.interface q.neighbour q.next_hop e))
+        ∙ ap (λ (m : Option ℕ). record { transport = 1; destination = to_neighbour m }) (neighbour_nobody l.interface q.neighbour hop f ∙ sym (neighbour_nobody l.interface q.neighbour q.next_hop e))
         ∙ sym (one_down l q one)
 
 module _ (t : Table) (q : Request) where
   -- a request that is done has passed every rule
-  unresolved : (send t q).number ≡ 0 → None (resolve_rules (named t q.index) q)
+  unresolved : (send t q).number ≡ 0 → NoneHolds (resolve_rules (named t q.index) q)
   unfolding Demand1 request_rules link_rules
   unresolved e =
       let l = named t q.index in
@@ -64,7 +64,7 @@ module _ (t : Table) (q : Request) where
 
   nobody : multicast (destination q.packet) ≡ false → Nobodys q.next_hop → (send t q).number ≢ 0
   unfolding resolve_rules
-  nobody one n e = clash (rw (one, neighbour-nobody (named t q.index).interface q.neighbour q.next_hop (not_good q.next_hop n)) refl) (unresolved e).1.0
+  nobody one n e = clash (rw (one, neighbour_nobody (named t q.index).interface q.neighbour q.next_hop (not_good q.next_hop n)) refl) (unresolved e).1.0
 
   ignored : multicast (destination q.packet) ≡ true → (hop : List ℕ) → send t (by_hop q hop) ≡ send t q
   unfolding send request_rules request_values link_rules resolve_rules

@@ -1,4 +1,5 @@
 -- What an indication answers, by the number that its rules give; and where it is delivered there is room.
+use Rattle.std.specs.Prelude.{None}
 use Prim.Native.Nat.{ℕ, zero, suc, ◌+◌, ◌≤◌, ◌<◌}
 use native.Mathlib.Omega.{arith}
 use mathlib.Core.Path.{◌≡◌, refl, sym, ap}
@@ -15,7 +16,6 @@ use Rattle.ipv6.proofs.Laws.Packet.{packet_numbered}
 use Rattle.frames.specs.Frame.{frame}
 use Rattle.frames.proofs.Laws.Grow.{frame_length_lem}
 use Rattle.links.specs.declared.Chosen.{Chosen}
-use Rattle.links.specs.declared.PerhapsLink.TheVariants.{Nothing as NoLink}
 use Rattle.links.specs.declared.Table.{Table}
 use Rattle.links.specs.Slots.{counted}
 use Rattle.traffic.specs.Arrives.{Indication, mac_to, indication_values, content_rules, choice_rules, room_rules, indication_rules, choose, index_of, chosen_for, choice_or, choice_of, frame_or_packet, deliver_as, deliver, refuse, unless, receive, deliver_on}
@@ -65,7 +65,7 @@ module _ (t : Table) (x : Indication) (buffer : List ℕ) where
 
 -- the question for the link, by the number that its rules give
 module _ (t : Table) (x : Indication) where
-  pub unchosen : (n : ℕ) → n ≡ refusal (choice_rules x) → n ≢ 0 → choice_of t x ≡ record { number = n; place = fault_place n x.packet; link = NoLink }
+  pub unchosen : (n : ℕ) → n ≡ refusal (choice_rules x) → n ≢ 0 → choice_of t x ≡ record { number = n; place = fault_place n x.packet; link = None }
   unfolding choice_of
   unchosen zero e h = absurd (h refl)
   unchosen (suc n) e h = ap (λ (m : ℕ). choice_or m x (index_of (choose (counted t) x))) (sym e)

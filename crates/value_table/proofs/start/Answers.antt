@@ -1,22 +1,15 @@
 -- `value_table::start` meets its contract.
-use mathlib.Core.Path.{sym, ◌∙◌, ap}
-use borrow.Author.Rules.{rules}
-use Rattle.links.specs.declared.PerhapsLink.TheVariants.{Nothing}
-use Rattle.links.specs.declared.Table.{Table}
+use mathlib.Core.Path.{sym}
+use Rattle.replies.proofs.Laws.Numbers.{number-not_0}
+use Rattle.replies.specs.Numbers.{number_of}
 use Rattle.links.specs.Slots.{value_slots}
 use Rattle.links.proofs.Laws.Replies.{start-refused, start-done}
 use Rattle.value_table.proofs.start.Goals as goal
 
-pub returns-then-bad-ne-DONE : goal.returns-then-bad-ne-DONE
-returns-then-bad-ne-DONE c =
-    let bad = c.start_refusal-bad in
-    c.without_link.ensures
-    ∙ ap (λ (t : Table). record { number = bad.result; link = Nothing; table = t }) c.plain.ensures
-    ∙ sym (start-refused 65 value_slots c.args.v bad.result bad.ensures c.if-bad-ne-DONE.true)
+pub returns-in-Ok : goal.returns-in-Ok
+returns-in-Ok c = rw c.fresh.ensures (sym (start-done 65 value_slots c.args.v (sym c.in-Ok.ensures)))
 
-pub returns : goal.returns
-returns c =
-    let bad = c.start_refusal-bad in
-    c.without_link-2.ensures
-    ∙ ap (λ (t : Table). record { number = 0; link = Nothing; table = t }) c.fresh.ensures
-    ∙ sym (start-done 65 value_slots c.args.v (sym bad.ensures ∙ c.if-bad-ne-DONE.false))
+pub returns-in-Err : goal.returns-in-Err
+returns-in-Err c =
+    let e = c.in-Err.refusal in
+    rw c.plain.ensures (sym (start-refused 65 value_slots c.args.v (number_of e) c.in-Err.ensures (number-not_0 e)))

@@ -1,21 +1,23 @@
 -- `value_traffic::link_of` meets its contract.
+use Rattle.std.proofs.Common.{rules, ◌≡◌, Err, Some}
 use mathlib.Core.Path.{sym, ◌∙◌, ap}
-use borrow.Author.Rules.{rules}
+use Rattle.replies.specs.Numbers.{number_of}
+use Rattle.replies.proofs.Laws.Numbers.{number-not_0}
 use Rattle.links.specs.declared.Chosen.{Chosen}
-use Rattle.links.specs.declared.PerhapsLink.TheVariants.{Link}
+use Rattle.traffic.specs.Replies.{Choice, choice_made}
 use Rattle.traffic.specs.Arrives.{indication}
 use Rattle.traffic.proofs.Laws.Receive.{unchosen, chosen_on}
 use Rattle.value_traffic.proofs.link_of.Goals as goal
 
-pub returns-then-bad-ne-DONE : goal.returns-then-bad-ne-DONE
-returns-then-bad-ne-DONE c =
-    let args = c.args in
-    let bad = c.choice_refusal-bad in
-    rw c.fault_place.ensures (sym (unchosen args.t (indication args.h args.packet.now) bad.result bad.ensures c.if-bad-ne-DONE.true))
+pub returns-in_err-check : goal.returns-in_err-check
+returns-in_err-check c =
+    let f = c.in_err-check.field-0.0 in
+    let e = c.in_err-check.ensures in
+    let is : choice_made c.from_residual.result ≡ choice_made (Err f) = search rules in
+    let none = unchosen c.args.t (indication c.args.h c.args.packet.now) (number_of f.refusal) e.0 (number-not_0 f.refusal) in
+    is ∙ rw e.1 (sym none)
 
 pub returns : goal.returns
 returns c =
-    let args = c.args in
-    let bad = c.choice_refusal-bad in
-    ap (λ (l : Chosen). record { number = 0; place = 0; link = Link l.index }) c.chosen_for-chosen.ensures
-    ∙ sym (chosen_on args.t (indication args.h args.packet.now) (sym bad.ensures ∙ c.if-bad-ne-DONE.false))
+    ap (λ (l : Chosen). record { number = 0; place = 0; link = Some l.index }) c.chosen_for.ensures
+    ∙ sym (chosen_on c.args.t (indication c.args.h c.args.packet.now) c.in_ok-check.ensures)

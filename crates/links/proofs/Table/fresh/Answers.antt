@@ -1,6 +1,5 @@
 -- `links::Table::fresh` meets its contract.
 use Prim.Native.Nat.{◌-◌}
-use borrow.Author.Rules.{rules}
 use Rattle.links.specs.Calls.{fresh}
 use Rattle.links.proofs.Laws.Fresh.{cleared-free}
 use Rattle.links.proofs.Table.fresh.Goals as goal

@@ -1,2 +1,0 @@
--- The loop through a day over a run.
-pub mod Days

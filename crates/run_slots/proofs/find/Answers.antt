@@ -1,0 +1,14 @@
+-- `run_slots::find` meets its contract.
+use mathlib.Core.Path.{◌∙◌}
+use Rattle.std.proofs.Common.{rules, tests}
+use Rattle.std.proofs.lemmas.Iterator.{YieldsList-from_slice, YieldsList-from_take}
+use Rattle.std.proofs.lemmas.Iterator.Search.{position_from_yields_List}
+use Rattle.run_slots.proofs.Laws.Finds.{found_by_position}
+use Rattle.run_slots.proofs.find.Goals as goal
+
+pub returns : goal.returns
+returns g c =
+    position_from_yields_List (g.Q.Question.test c.args.asked) _ _ _ c.position.ensures.ran
+    (YieldsList-from_take _ (YieldsList-from_slice c.args.run.now cc) c.take.ensures.count)
+    (λ x b q k. search (rules, tests))
+    ∙ found_by_position _ _

@@ -1,3 +1,0 @@
--- The laws of slots.
-pub mod Found
-pub mod Place
