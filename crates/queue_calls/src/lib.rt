@@ -9,24 +9,22 @@ ghost use Rattle.queues.specs.Packets.{packed, front, walks, good};
 ghost use Rattle.queues.specs.Calls.{add_rules, laid, add, add_to_control, add_to_film, next_rules, film_goes, shown_at, show, part_of, place_of, moved_down, row_after, take_next};
 ghost use Rattle.queue_calls.specs.Parts.{added_of, behind};
 
-use numbers::{Number, NumberRun};
+use numbers::NumberRun;
 use queues::{LONGEST, ROW, Reply, SIZE, Shown, State};
 use replies::{DONE, PACKET_TOO_LONG, QUEUE_FULL, QUEUE_NOT_GOOD, QUEUES_EMPTY};
 
-// The packet at a place of held bytes: its length, and the place behind that. Broken where adding can't have left one there.
-fn front_at(held: &[u8], at: usize) -> Number
+// The packet at a place of held bytes: its length, and the place behind that. None where adding can't have left one there.
+fn front_at(held: &[u8], at: usize) -> Option<(u64, usize)>
     ensures { result ≡ shifted at (front (drop at held.now)) }
 {
-    let Number::Good(length, start) = numbers::read(held, at) else {
-        return Number::Broken;
-    };
+    let (length, start) = numbers::read(held, at)?;
     if LONGEST < length {
-        return Number::Broken;
+        return None;
     }
     if held.len() - start < length as usize {
-        return Number::Broken;
+        return None;
     }
-    Number::Good(length, start)
+    Some((length, start))
 }
 
 // Whether held bytes are packets, one behind the other.
@@ -35,7 +33,7 @@ fn are_packets(held: &[u8]) -> bool
 {
     let mut at: usize = 0;
     while at < held.len() {
-        let Number::Good(length, start) = front_at(held, at) else {
+        let Some((length, start)) = front_at(held, at) else {
             return false;
         };
         at = start + length as usize;
@@ -87,9 +85,8 @@ fn lay(queue: &mut [u8], held: usize, run: NumberRun, packet: &[u8])
     requires { (run ≡ written (length packet.now)) × (held + length (packed packet.now) ≤ length queue.old) }
     ensures { queue.new ≡ laid held queue.old packet.now }
 {
-    let digits = run.length;
-    let at = held + digits;
-    octets::copy(octets::part(&run.bytes, 0, digits), &mut queue[held..]);
+    let at = held + run.length;
+    octets::copy(run.as_bytes(), &mut queue[held..]);
     frames::write_packet(&mut queue[at..], packet);
 }
 
@@ -101,10 +98,7 @@ fn add(held: usize, queue: &mut [u8], packet: &[u8]) -> Added
     let digits = run.length;
     let number = add_refusal(held, queue, packet, digits);
     if number != DONE {
-        return Added {
-            number: number,
-            held: held,
-        };
+        return Added { number, held };
     }
     lay(queue, held, run, packet);
     Added {
@@ -167,15 +161,15 @@ fn shown_in(film: bool, held: &[u8]) -> Shown
     ensures { result ≡ shown_at film (front held.now) }
 {
     match front_at(held, 0) {
-        Number::Good(length, start) => Shown {
+        Some((length, start)) => Shown {
             number: DONE,
-            film: film,
+            film,
             at: start,
             length: length as usize,
         },
-        Number::Broken => Shown {
+        None => Shown {
             number: DONE,
-            film: film,
+            film,
             at: 0,
             length: 0,
         },
@@ -188,7 +182,7 @@ pub fn show(state: State, control: &[u8], film: &[u8]) -> Shown
     let number = next_refusal(state, control, film);
     if number != DONE {
         return Shown {
-            number: number,
+            number,
             film: false,
             at: 0,
             length: 0,
@@ -249,7 +243,7 @@ pub fn take(state: State, control: &mut [u8], film: &mut [u8]) -> Reply
     if shown.number != DONE {
         return Reply {
             number: shown.number,
-            state: state,
+            state,
         };
     }
     let n = shown.at + shown.length;
@@ -262,7 +256,7 @@ pub fn take(state: State, control: &mut [u8], film: &mut [u8]) -> Reply
             state: State {
                 control: state.control,
                 film: held - n,
-                row: row,
+                row,
             },
         };
     }
@@ -273,7 +267,7 @@ pub fn take(state: State, control: &mut [u8], film: &mut [u8]) -> Reply
         state: State {
             control: held - n,
             film: state.film,
-            row: row,
+            row,
         },
     }
 }

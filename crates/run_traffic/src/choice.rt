@@ -9,6 +9,7 @@ use search::{Overlapping, SameGround};
 use traffic::{Destination, IndicationHead};
 
 // The place of the stop link that line 2 or 3 gives: by the area, or by the packet's destination and failing that its source.
+#[tactic(auto, using(crate::proofs::Laws::Stops::no_stop))]
 fn stop_for(run: &[Slot], max: usize, h: IndicationHead, packet: &[u8]) -> Option<usize>
     ensures { result ≡ stop_place (choose (take (max - 1) run.now) (indication h packet.now)) }
 {

@@ -49,6 +49,7 @@ pub fn link_at(run: &[Slot], head: Head, index: LinkIndex) -> Named
 }
 
 // What refuses a request before its link is read: 1, 23 in this order.
+#[tactic(auto, using(replies::proofs::Laws::Numbers::first_refuses, replies::proofs::Laws::Numbers::next_decides, traffic::proofs::Laws::Send::values_numbered))]
 fn check_request(run: &[Slot], head: Head, h: RequestHead) -> Result<(), Refusal>
     ensures { reply_number result ≡ refusal (request_values (request h [] []) ++ (23 if too_short head.max run.now then [])) }
 {

@@ -8,6 +8,7 @@ use mathlib.Core.List.{List}
 use lib.Dec.{leb}
 use lib.ListN.{length, drop, length-drop}
 use borrow.Author.Tests.{le-leb, lt-leb}
+use Rattle.std.proofs.lemmas.Option.{none-some, some_pair_parts}
 use Rattle.numbers.specs.Numbers.{read_number, read_at, shifted}
 use Rattle.numbers.proofs.Laws.Written.{read_length}
 use Rattle.queues.specs.Packets.{whole, front}
@@ -24,13 +25,12 @@ unfolding read_at
 read_there l at n start e = go (read_number (drop at l)) refl e
   where
     go : (r : Option (ℕ × ℕ)) → read_number (drop at l) ≡ r → shifted at r ≡ Some (n, start) → ReadThere l at n start
-    go None p q = absurd (let z : ◌≡◌ {A = ℕ} 0 1 = cc in omega arith)
+    go None p q = absurd (none-some (n, start) q)
     go (Some (m, k)) p q =
-        let number : m ≡ n = cc in
-        let place : at + k ≡ start = cc in
-        let reads : read_number (drop at l) ≡ Some (n, k) = p ∙ ap (λ (x : ℕ). Some (x, k)) number in
+        let same = some_pair_parts m n (at + k) start q in
+        let reads : read_number (drop at l) ≡ Some (n, k) = p ∙ ap (λ (x : ℕ). Some (x, k)) same.0 in
         let there = read_length (drop at l) n k reads in
-        record { digits = k; reads = reads; behind = sym place; within = omega (arith, there.0, there.1, length-drop at l) }
+        record { digits = k; reads = reads; behind = sym same.1; within = omega (arith, there.0, there.1, length-drop at l) }
 
 pub broken : (l : List ℕ) (at : ℕ) → read_at l at ≡ None → None ≡ shifted at (front (drop at l))
 unfolding read_at front
@@ -38,7 +38,7 @@ broken l at e = go (read_number (drop at l)) refl e
   where
     go : (r : Option (ℕ × ℕ)) → read_number (drop at l) ≡ r → shifted at r ≡ None → None ≡ shifted at (whole (drop at l) r)
     go None p q = refl
-    go (Some (m, k)) p q = absurd (let z : ◌≡◌ {A = ℕ} 0 1 = cc in omega arith)
+    go (Some (m, k)) p q = absurd (none-some (m, at + k) (sym q))
 
 module _ (l : List ℕ) (at n start : ℕ) (e : read_at l at ≡ Some (n, start)) where
   r : ReadThere l at n start

@@ -9,6 +9,7 @@ use lib.Dec.{eqb}
 use lib.ListN.{length, drop, length-drop}
 use lib.Seq.{drop-drop}
 use borrow.Author.Tests.{eq-eqb, ne_eqb}
+use Rattle.std.proofs.lemmas.Option.{none-some, some_pair_parts}
 use Rattle.numbers.specs.Numbers.{shifted}
 use Rattle.queues.specs.Packets.{front, is_good, bytes_of, walks}
 use Rattle.queues.proofs.Laws.Packets.{front-within, walks-enough}
@@ -47,16 +48,15 @@ pub found : (l : List ℕ) (at n start : ℕ) → at ≤ length l → shifted at
 found l at n start h e = go (front (drop at l)) refl e
   where
     go : (r : Option (ℕ × ℕ)) → front (drop at l) ≡ r → shifted at r ≡ Some (n, start) → Found l at n start
-    go None p q = absurd (let z : ◌≡◌ {A = ℕ} 0 1 = cc in omega arith)
+    go None p q = absurd (none-some (n, start) q)
     go (Some (m, k)) p q =
-        let number : m ≡ n = cc in
-        let place : at + k ≡ start = cc in
+        let same = some_pair_parts m n (at + k) start q in
         let w = front-within (drop at l) m k p in
         let size = length-drop at l in
-        let behind : at + (k + m) ≡ start + n = omega arith in
+        let behind : at + (k + m) ≡ start + n = omega (arith, same.0, same.1) in
         record {
-          on = omega arith;
-          within = omega arith;
+          on = omega (arith, behind, w);
+          within = omega (arith, behind, w, size);
           rest = goes_on (drop at l) m k p ∙ ap walked (drop-drop (k + m) at l ∙ ap (λ (x : ℕ). drop x l) behind);
         }
 
@@ -65,4 +65,4 @@ not_found l at h e = go (front (drop at l)) refl e
   where
     go : (r : Option (ℕ × ℕ)) → front (drop at l) ≡ r → shifted at r ≡ None → false ≡ walked (drop at l)
     go None p q = stops (drop at l) (omega (arith, length-drop at l)) p
-    go (Some (m, k)) p q = absurd (let z : ◌≡◌ {A = ℕ} 0 1 = cc in omega arith)
+    go (Some (m, k)) p q = absurd (none-some (m, at + k) (sym q))

@@ -19,19 +19,19 @@ returns-in_default c =
 pub overflow_add-at : goal.overflow_add-at
 overflow_add-at c =
     -- the packet that a turn goes past
-    let past = found c.args.held.now c.loop-at.at c.in-Good.length c.in-Good.start c.loop-at.invariant.0 (sym c.front_at.ensures ∙ c.in-Good.is) in
+    let past = found c.args.held.now c.loop-at.at c.in-Some.length c.in-Some.start c.loop-at.invariant.0 (sym c.front_at.ensures ∙ c.in-Some.is) in
     omega (arith, past.within)
 
 pub loop-at-smaller : goal.loop-at-smaller
 loop-at-smaller c =
     -- the packet that a turn goes past
-    let past = found c.args.held.now c.loop-at.at c.in-Good.length c.in-Good.start c.loop-at.invariant.0 (sym c.front_at.ensures ∙ c.in-Good.is) in
+    let past = found c.args.held.now c.loop-at.at c.in-Some.length c.in-Some.start c.loop-at.invariant.0 (sym c.front_at.ensures ∙ c.in-Some.is) in
     omega (arith, past.on, past.within)
 
 pub loop-at-preserved : goal.loop-at-preserved
 loop-at-preserved c =
     -- the packet that a turn goes past
-    let past = found c.args.held.now c.loop-at.at c.in-Good.length c.in-Good.start c.loop-at.invariant.0 (sym c.front_at.ensures ∙ c.in-Good.is) in
+    let past = found c.args.held.now c.loop-at.at c.in-Some.length c.in-Some.start c.loop-at.invariant.0 (sym c.front_at.ensures ∙ c.in-Some.is) in
     (past.within, c.loop-at.invariant.1 ∙ past.rest)
 
 pub returns : goal.returns

@@ -50,7 +50,7 @@ slice_bounds-write_packet-count c =
     let p = args.packet.now in
     let count = digits_count args.run (length p) c.requires.0 in
     let space = room args.held args.run queue p c.requires.0 c.requires.1 in
-    let size = long_as_before args.held (args.held + args.run.length) queue (number_bytes (length p)) _ (omega arith) (omega arith) (omega arith) (with-digits args.held args.run queue p _ _ _ c.requires.0 c.requires.1 c.part.ensures c.copy.ensures.0 c.copy.ensures.1) in
+    let size = long_as_before args.held (args.held + args.run.length) queue (number_bytes (length p)) _ (omega arith) (omega arith) (omega arith) (with-digits args.held args.run queue p _ _ _ c.requires.0 c.requires.1 c.as_bytes.ensures c.copy.ensures.0 c.copy.ensures.1) in
     omega (arith, size, space)
 
 pub slice_bounds-write_packet-start : goal.slice_bounds-write_packet-start
@@ -60,7 +60,7 @@ slice_bounds-write_packet-start c =
     let p = args.packet.now in
     let count = digits_count args.run (length p) c.requires.0 in
     let space = room args.held args.run queue p c.requires.0 c.requires.1 in
-    let size = long_as_before args.held (args.held + args.run.length) queue (number_bytes (length p)) _ (omega arith) (omega arith) (omega arith) (with-digits args.held args.run queue p _ _ _ c.requires.0 c.requires.1 c.part.ensures c.copy.ensures.0 c.copy.ensures.1) in
+    let size = long_as_before args.held (args.held + args.run.length) queue (number_bytes (length p)) _ (omega arith) (omega arith) (omega arith) (with-digits args.held args.run queue p _ _ _ c.requires.0 c.requires.1 c.as_bytes.ensures c.copy.ensures.0 c.copy.ensures.1) in
     omega (arith, size, space)
 
 pub returns : goal.returns
@@ -73,7 +73,7 @@ returns c =
     let count : args.run.length ≡ length v = digits_count args.run (length p) c.requires.0 in
     let space = room args.held args.run queue p c.requires.0 c.requires.1 in
     let now = take args.held queue ++ (c.copy.new.to ++ drop (length queue - args.held) (drop args.held queue)) in
-    let digits_in : now ≡ (take args.held queue ++ v) ++ drop at queue = with-digits args.held args.run queue p _ _ _ c.requires.0 c.requires.1 c.part.ensures c.copy.ensures.0 c.copy.ensures.1 in
+    let digits_in : now ≡ (take args.held queue ++ v) ++ drop at queue = with-digits args.held args.run queue p _ _ _ c.requires.0 c.requires.1 c.as_bytes.ensures c.copy.ensures.0 c.copy.ensures.1 in
     let size : length now ≡ length queue = long_as_before args.held at queue v now (omega arith) (omega arith) (omega arith) digits_in in
     let lent = take (length now - at) (drop at now) in
     let fits : length p ≤ length lent = omega (arith, length-take (length now - at) (drop at now), length-drop at now) in

@@ -14,12 +14,12 @@ at_front : (r : Option (ℕ × ℕ)) → shifted 0 r ≡ r
 at_front (Some (n, k)) = ap (λ (x : ℕ). Some (n, x)) (zero-add k)
 at_front None = refl
 
-pub returns-in-Good : goal.returns-in-Good
-returns-in-Good c =
+pub returns-in-Some : goal.returns-in-Some
+returns-in-Some c =
     let args = c.args in
-    ap (shown_at args.film) (sym c.in-Good.is ∙ c.front_at.ensures ∙ at_front (front args.held.now))
+    ap (shown_at args.film) (sym c.in-Some.is ∙ c.front_at.ensures ∙ at_front (front args.held.now))
 
-pub returns-in-Broken : goal.returns-in-Broken
-returns-in-Broken c =
+pub returns-in-None : goal.returns-in-None
+returns-in-None c =
     let args = c.args in
-    ap (shown_at args.film) (sym c.in-Broken.is ∙ c.front_at.ensures ∙ at_front (front args.held.now))
+    ap (shown_at args.film) (sym c.in-None.is ∙ c.front_at.ensures ∙ at_front (front args.held.now))

@@ -12,6 +12,7 @@ use lib.Seq.{length-take-le, take-add, take_at, drop_at, get_or-drop}
 use Rattle.octets.proofs.Laws.Tests.{clash}
 use Rattle.octets.proofs.Laws.Digits.{below_part}
 use borrow.Author.Tests.{le-leb, leb-true, eqb-true, eq-eqb}
+use Rattle.std.proofs.lemmas.Option.{none-some, some_pair_parts}
 use Rattle.numbers.specs.Numbers.{groups, number_bytes, read_number}
 use Rattle.numbers.proofs.Laws.Written.{written-reads, reads-written, read_length}
 use Rattle.queues.specs.Packets.{packed, queued, Short, Holds, Left, whole, front, is_good, bytes_of, walks, good, Bytes, DecidesExactly, OneMeaning}
@@ -43,17 +44,16 @@ short-append (p ∷ ps) qs h k = (h.0, short-append ps qs h.1 k)
 -- The packet in front
 
 whole-good : (l : List ℕ) (r : Option (ℕ × ℕ)) (n k : ℕ) → whole l r ≡ Some (n, k) → (r ≡ Some (n, k)) × (k + n ≤ length l) × (n ≤ 1280)
-whole-good l None n k e = absurd (let z : ◌≡◌ {A = ℕ} 0 1 = cc in omega arith)
+whole-good l None n k e = absurd (none-some (n, k) e)
 whole-good l (Some (m, j)) n k e = go (leb m 1280) refl (leb (j + m) (length l)) refl e
   where
-    go : (s : Bool) → leb m 1280 ≡ s → (t : Bool) → leb (j + m) (length l) ≡ t → cond (s && t) (Some (m, j)) None ≡ Some (n, k)
-        → (Some (m, j) ≡ Some (n, k)) × (k + n ≤ length l) × (n ≤ 1280)
+    go : (s : Bool) → leb m 1280 ≡ s → (t : Bool) → leb (j + m) (length l) ≡ t → cond {A = Option (ℕ × ℕ)} (s && t) (Some (m, j)) None ≡ Some (n, k)
+        → (◌≡◌ {A = Option (ℕ × ℕ)} (Some (m, j)) (Some (n, k))) × (k + n ≤ length l) × (n ≤ 1280)
     go true p true q e =
-        let n-is : m ≡ n = cc in
-        let k-is : j ≡ k = cc in
+        let same = some_pair_parts m n j k e in
         (e, omega (arith, leb-true (j + m) (length l) q), omega (arith, leb-true m 1280 p))
-    go true p false q e = absurd (let z : ◌≡◌ {A = ℕ} 0 1 = cc in omega arith)
-    go false p t q e = absurd (let z : ◌≡◌ {A = ℕ} 0 1 = cc in omega arith)
+    go true p false q e = absurd (none-some (n, k) e)
+    go false p t q e = absurd (none-some (n, k) e)
 
 -- it takes at least one byte, and no more than there are
 pub front-within : (l : List ℕ) (n k : ℕ) → front l ≡ Some (n, k) → (0 < k) × (k + n ≤ length l) × (n ≤ 1280)
@@ -167,7 +167,7 @@ packed_alike : (p q r s : List ℕ) → length p ≤ 1280 → length q ≤ 1280 
 packed_alike p q r s h k e =
     let one = front-packed p r h in
     let other = front-packed q s k in
-    let long : length p ≡ length q = cc in
+    let long = (some_pair_parts (length p) (length q) _ _ (sym one ∙ ap front e ∙ other)).0 in
     let same : p ++ r ≡ q ++ s = sym (behind-length p r) ∙ ap (drop (length (number_bytes (length p)))) e ∙ rw long (behind-length q s) in
     (sym (take_at p r _ refl) ∙ ap (take (length p)) same ∙ take_at q s _ (sym long), sym (drop_at p r _ refl) ∙ ap (drop (length p)) same ∙ drop_at q s _ (sym long))
 

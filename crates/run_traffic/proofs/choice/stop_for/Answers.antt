@@ -11,7 +11,7 @@ use Rattle.traffic.specs.declared.Destination.{Destination}
 use Rattle.traffic.specs.declared.Destination.TheVariants.{Mid, Nothing}
 use Rattle.traffic.specs.Arrives.{indication, is_area}
 use Rattle.run_traffic.specs.Choice.{stop_place}
-use Rattle.run_traffic.proofs.Laws.Stops.{by_address, by_ground, elsewhere, no_stop, failing_that}
+use Rattle.run_traffic.proofs.Laws.Stops.{by_address, by_ground, elsewhere, failing_that}
 use Rattle.run_traffic.proofs.choice.stop_for.Goals as goal
 
 -- a search of the slots that count, by a test that is another's
@@ -49,9 +49,3 @@ returns-in-Mid c =
     let args = c.args in
     let e : (eqb args.h.transport 2 || eqb args.h.transport 3) ≡ true = search rules in
     elsewhere (take (args.max - 1) args.run.now) (indication args.h args.packet.now) e (no_area args.h.destination c.in-Mid.is)
-
-pub returns-in_default : goal.returns-in_default
-returns-in_default c = no_stop _ _ (λ e. omega arith) (λ e. omega arith) (λ e. omega arith)
-
-pub returns-in_default-2 : goal.returns-in_default-2
-returns-in_default-2 c = no_stop _ _ (λ e. omega arith) (λ e. omega arith) (λ e. omega arith)
