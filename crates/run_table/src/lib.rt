@@ -94,6 +94,7 @@ pub fn disable(run: &mut [Slot], head: Head, index: LinkIndex) -> HeadReply
 }
 
 // The refusals in their order: 23, 15, 7.
+#[tactic(auto, unfolding(links::specs::Run::reply_over, links::specs::Run::rules_over, links::specs::Calls::rules, links::specs::Calls::link_after, links::specs::Calls::table_after))]
 fn disabled(run: &mut [Slot], head: Head, index: LinkIndex) -> Result<Option<LinkIndex>, Refusal>
     ensures { Left (reply_over (over head run.old) (disable index)) (record { answer = result; head = head }) run.new }
 {
@@ -116,6 +117,7 @@ pub fn set_dgvl_area(run: &[Slot], head: Head, a: Option<Area>) -> HeadReply
     changed(head, with_area(run, head, a))
 }
 
+#[tactic(auto, unfolding(links::specs::Run::reply_over, links::specs::Run::rules_over, links::specs::Calls::rules, links::specs::Calls::link_after, links::specs::Calls::table_after))]
 fn with_area(run: &[Slot], head: Head, a: Option<Area>) -> Result<Head, Refusal>
     ensures { Left (reply_over (over head run.now) (set_area a)) (changed head result) run.now }
 {
@@ -132,6 +134,7 @@ pub fn set_own_mid(run: &[Slot], head: Head, mid: u64) -> HeadReply
     changed(head, with_own_mid(run, head, mid))
 }
 
+#[tactic(auto, unfolding(links::specs::Run::reply_over, links::specs::Run::rules_over, links::specs::Calls::rules, links::specs::Calls::link_after, links::specs::Calls::table_after))]
 fn with_own_mid(run: &[Slot], head: Head, mid: u64) -> Result<Head, Refusal>
     ensures { Left (reply_over (over head run.now) (set_own mid)) (changed head result) run.now }
 {

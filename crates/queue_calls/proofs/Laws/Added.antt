@@ -1,7 +1,7 @@
 -- What adding answers, by the number that the rules give.
 use Prim.Native.Nat.{ℕ, ◌+◌, ◌≤◌}
 use native.Mathlib.Omega.{arith}
-use mathlib.Core.Path.{◌≡◌, refl, sym, ◌∙◌, ap}
+use mathlib.Core.Path.{◌≡◌, sym, ◌∙◌}
 use mathlib.Core.Logic.{◌≢◌}
 use mathlib.Core.List.{List}
 use lib.ListN.{length}
@@ -9,7 +9,7 @@ use borrow.Author.Tests.{not-false, ltb-false, ne_eqb}
 use Rattle.replies.specs.Rules.{refusal}
 use Rattle.replies.proofs.Laws.Refusals.{done-exactly}
 use Rattle.queues.specs.Packets.{packed, good}
-use Rattle.queues.specs.Calls.{Queue, add_rules, laid, add}
+use Rattle.queues.specs.Calls.{add_rules, laid, add}
 use Rattle.queue_calls.proofs.Laws.Good.{good-fits}
 
 module _ (held : ℕ) (queue p : List ℕ) (n : ℕ) (e : n ≡ refusal (add_rules held queue p)) where

@@ -8,7 +8,7 @@ use mathlib.Core.Bool.{Bool, true, false, cond, not, ◌&&◌, and-eq-true_iff}
 use mathlib.Core.List.{List, []}
 use lib.Dec.{eqb}
 use lib.ListN.{length, take, drop, length-take}
-use borrow.Author.Tests.{eqb-true, ne_eqb}
+use borrow.Author.Tests.{ne_eqb}
 use Rattle.replies.specs.Rules.{◌if◌, ◌then◌, refusal}
 use Rattle.queues.specs.declared.State.{State}
 use Rattle.queues.specs.declared.Shown.{Shown}

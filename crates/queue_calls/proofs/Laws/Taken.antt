@@ -1,14 +1,13 @@
 -- What taking answers and leaves, by what was shown.
 use Prim.Native.Nat.{ℕ, ◌+◌, ◌-◌}
-use mathlib.Core.Path.{◌≡◌, refl, sym, ◌∙◌, ap}
+use mathlib.Core.Path.{◌≡◌, ◌∙◌, ap}
 use mathlib.Core.Logic.{◌≢◌}
-use mathlib.Core.Bool.{Bool, true, false}
+use mathlib.Core.Bool.{true, false}
 use mathlib.Core.List.{List}
-use lib.Dec.{eqb}
 use borrow.Author.Tests.{eq-eqb, ne_eqb}
 use Rattle.queues.specs.declared.State.{State}
 use Rattle.queues.specs.declared.Shown.{Shown}
-use Rattle.queues.specs.Calls.{Queues, show, moved_down, row_after, take_shown, take_next}
+use Rattle.queues.specs.Calls.{show, moved_down, row_after, take_shown, take_next}
 
 module _ (s : State) (control film : List ℕ) (r : Shown) (e : r ≡ show s control film) where
   by_shown : take_shown r s control film ≡ take_next s control film

@@ -1,10 +1,9 @@
 -- `queue_calls::add` meets its contract.
-use Prim.Native.Nat.{ℕ, ◌+◌, ◌≤◌}
+use Prim.Native.Nat.{ℕ, ◌+◌}
 use native.Mathlib.Omega.{arith}
 use mathlib.Core.Path.{◌≡◌, ◌∙◌, ap}
 use mathlib.Core.List.{List}
 use lib.ListN.{length}
-use borrow.Author.Rules.{rules}
 use Rattle.numbers.specs.declared.NumberRun.{NumberRun}
 use Rattle.numbers.specs.Numbers.{written}
 use Rattle.queues.specs.Packets.{packed}

@@ -1,6 +1,5 @@
 -- `queue_calls::add_control` meets its contract.
 use mathlib.Core.Path.{ap}
-use borrow.Author.Rules.{rules}
 use Rattle.queues.specs.Calls.{add_to_control}
 use Rattle.queue_calls.specs.declared.Added.{Added}
 use Rattle.queue_calls.proofs.add_control.Goals as goal

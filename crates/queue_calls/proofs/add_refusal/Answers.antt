@@ -2,15 +2,12 @@
 use Prim.Native.Nat.{ℕ, ◌+◌, ◌≤◌}
 use native.Mathlib.Omega.{arith}
 use mathlib.Core.Path.{◌≡◌, sym, ◌∙◌}
-use mathlib.Core.Bool.{Bool, true, false}
-use mathlib.Core.List.{List, []}
-use lib.Dec.{ltb}
+use mathlib.Core.Bool.{true, false}
+use mathlib.Core.List.{List}
 use lib.ListN.{length}
-use borrow.Author.Tests.{not-true, not-false, lt-ltb, le-ltb, ltb-false}
-use Rattle.replies.specs.Rules.{◌if◌, ◌then◌, refusal}
+use borrow.Author.Tests.{lt-ltb, le-ltb}
 use Rattle.numbers.specs.Numbers.{number_bytes}
 use Rattle.queues.specs.Packets.{packed, good}
-use Rattle.queues.specs.Calls.{add_rules}
 use Rattle.queues.proofs.Laws.Packets.{length-packed}
 use Rattle.queue_calls.proofs.Laws.Good.{good-fits}
 use Rattle.queue_calls.proofs.Laws.Refused.{bad_queue, long-packet, by_room, few-digits}

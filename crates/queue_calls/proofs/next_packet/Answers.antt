@@ -1,5 +1,5 @@
 -- `queue_calls::next_packet` meets its contract.
-use mathlib.Core.Path.{◌≡◌, ◌∙◌}
+use mathlib.Core.Path.{◌∙◌}
 use mathlib.Core.Bool.{true, false}
 use Rattle.queues.specs.Calls.{show}
 use Rattle.queue_calls.proofs.Laws.Shown.{shown_part, part_is, place_is, part_within}

@@ -1,8 +1,6 @@
 -- `queue_calls::next_refusal` meets its contract.
 use mathlib.Core.Path.{◌≡◌, sym, ◌∙◌, ap₂}
 use mathlib.Core.Bool.{Bool, true, false, ◌&&◌}
-use borrow.Author.Tests.{not-true, not-false}
-use Rattle.queues.specs.Packets.{good}
 use Rattle.queue_calls.proofs.Laws.Refused.{bad_queues, by_packets}
 use Rattle.queue_calls.proofs.next_refusal.Goals as goal
 

@@ -3,7 +3,6 @@ use Prim.Native.Nat.{ℕ, ◌+◌, ◌-◌}
 use native.Mathlib.Omega.{arith}
 use mathlib.Core.Path.{◌≡◌, refl, ap}
 use lib.ListN.{take, drop}
-use borrow.Author.Rules.{rules}
 use Rattle.queue_calls.proofs.part_there.Goals as goal
 
 pub returns : goal.returns

@@ -1,10 +1,8 @@
 -- `queue_calls::shown_in` meets its contract.
 use Rattle.std.specs.Prelude.{Option, Some, None}
 use Prim.Native.Nat.{ℕ}
-use native.Mathlib.Omega.{arith}
 use native.Mathlib.Nat.{zero-add}
 use mathlib.Core.Path.{◌≡◌, refl, sym, ◌∙◌, ap}
-use borrow.Author.Rules.{rules}
 use Rattle.numbers.specs.Numbers.{shifted}
 use Rattle.queues.specs.Packets.{front}
 use Rattle.queues.specs.Calls.{shown_at}

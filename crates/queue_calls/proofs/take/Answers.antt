@@ -1,11 +1,10 @@
 -- `queue_calls::take` meets its contract.
 use Prim.Native.Nat.{◌+◌, ◌-◌}
 use native.Mathlib.Omega.{arith}
-use mathlib.Core.Path.{◌≡◌, refl, ◌∙◌, ap}
-use mathlib.Core.Bool.{Bool, true, false, cond}
-use borrow.Author.Rules.{rules}
+use mathlib.Core.Path.{refl, ◌∙◌, ap}
+use mathlib.Core.Bool.{true, false}
 use Rattle.queues.specs.Calls.{Queues}
-use Rattle.queue_calls.proofs.Laws.Shown.{InQueue, in_queue}
+use Rattle.queue_calls.proofs.Laws.Shown.{in_queue}
 use Rattle.queue_calls.proofs.Laws.Taken.{not_taken, film_taken, control_taken}
 use Rattle.queue_calls.proofs.take.Goals as goal
 

@@ -1,5 +1,5 @@
 -- An enable, where its values and the length of the run refuse nothing: what its ground, the enabled links and the unused slots do.
-use Rattle.std.specs.Prelude.{ℕ, ◌<◌, ◌≡◌, refl, Bool, true, false, cond, not, ◌||◌, List, [], ◌++◌, Option, Some, None, length, set, Ok, Err}
+use Rattle.std.specs.Prelude.{ℕ, ◌<◌, ◌≡◌, refl, Bool, true, false, cond, not, ◌||◌, List, [], Option, Some, None, length, set, Ok, Err}
 use mathlib.Core.Path.{sym, ◌∙◌, ap, subst}
 use borrow.Author.Tests.{ltb-true}
 use Rattle.links.proofs.Laws.Search.{any_place}

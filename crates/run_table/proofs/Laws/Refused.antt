@@ -1,19 +1,17 @@
 -- A call that is refused leaves all as it was, by which list of rules it is: that of its values, 23, or its own list. What none of them
 -- refuses is done.
-use Rattle.std.specs.Prelude.{ℕ, zero, suc, ◌≡◌, refl, ◌-◌, Bool, true, false, not, List, [], None, Some, Ok, Err}
+use Rattle.std.specs.Prelude.{ℕ, zero, suc, ◌≡◌, refl, ◌-◌, Bool, true, false, List, [], None, Ok, Err}
 use mathlib.Core.Path.{sym, ◌∙◌, ap}
-use lib.Dec.{lit<}
 use Rattle.replies.specs.declared.Refusal.{Refusal}
 use Rattle.replies.specs.declared.Refusal.TheVariants.{RunTooShort}
 use Rattle.replies.specs.Numbers.{number_of}
 use Rattle.replies.specs.Rules.{refusal, ◌if◌, ◌then◌}
 use Rattle.replies.proofs.Laws.Numbers.{number-not_0, first_refuses, next_decides}
 use Rattle.links.specs.declared.Head.{Head}
-use Rattle.links.specs.declared.LinkIndex.{LinkIndex}
 use Rattle.links.specs.declared.Slot.{Slot}
 use Rattle.links.specs.declared.StartValues.{StartValues}
-use Rattle.links.specs.Slots.{is_fixed, counted, slot_at}
-use Rattle.links.specs.Calls.{TableCall, disable, rules, link_after, table_after, answer, start_values, cleared}
+use Rattle.links.specs.Slots.{counted}
+use Rattle.links.specs.Calls.{TableCall, rules, link_after, table_after, answer, start_values, cleared}
 use Rattle.links.specs.Run.{over, too_short, values_of, rules_over, reply_over, Left, fresh_head, start_rules_over, begin_over, start_over, Begins}
 use Rattle.links.proofs.Laws.Replies.{start_numbered}
 use Rattle.links.proofs.Laws.Run.{calls-values_numbered, long-enough}
@@ -82,8 +80,3 @@ module _ (run : List Slot) (v : StartValues) where
     pub start_done : 0 ≡ refusal (23 if too_short v.max run then []) → Begins (start_over run v) (Ok (fresh_head v)) (cleared (v.max - 1) run)
     unfolding start_over
     start_done n = ap (λ (m : ℕ). begin_over m run v) (next 0 n)
-
--- a disable's own list, by the slot that was read
-pub by_slot : (l : List Slot) (i : LinkIndex) (x : Slot) (n : ℕ) → x ≡ slot_at l i → n ≡ refusal (15 if is_fixed i then 7 if not x.enabled then []) → n ≡ refusal (rules l (disable i))
-unfolding rules
-by_slot l i x n e f = f ∙ ap (λ (y : Slot). refusal (15 if is_fixed i then 7 if not y.enabled then [])) e

@@ -1,8 +1,6 @@
 -- `run_table::check_apart` meets its contract.
 use mathlib.Core.Path.{refl, sym, ◌∙◌}
 use lib.ListN.{take}
-use Rattle.prefixes.specs.Prefixes.{overlapping}
-use Rattle.links.specs.Slots.{any, with}
 use Rattle.run_table.proofs.Laws.Enabling.{ground_found, links_refuse}
 use Rattle.run_table.proofs.check_apart.Goals.{then-overlap_within-via-then-overlap_within, then-overlap_within-via-else-overlap_within+then-overlapping}
 use Rattle.run_table.proofs.check_apart.Goals as goal

@@ -1,11 +1,5 @@
 -- `run_table::start` meets its contract.
-use mathlib.Core.Path.{◌≡◌, ◌∙◌, ap}
-use mathlib.Core.List.{List}
-use Rattle.std.specs.Prelude.{Some}
 use Rattle.std.proofs.lemmas.Result.{err_from_is_err_and}
-use Rattle.links.specs.declared.Slot.{Slot}
-use Rattle.links.specs.Calls.{cleared}
-use Rattle.links.specs.Run.{fresh_head, Started}
 use Rattle.run_table.proofs.Laws.Refused.{start-by_values, start-by_length, start_done}
 use Rattle.run_table.proofs.start.Goals as goal
 

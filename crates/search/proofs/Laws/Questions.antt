@@ -20,9 +20,9 @@ use Rattle.links.proofs.Laws.Settings.{reaches_as_overlap}
 use Rattle.search.specs.Search.{on_ground, overlapping}
 
 -- the links that have the normal form of an area are those of the same ground
-pub ground_asked : {n : Area} (a : Area) → n ≡ normal a → ◌≡◌ {A = Slot → Bool} (with (on_ground n)) (with (λ s. same_area s.area a))
+pub asks_the_ground : {n : Area} (a : Area) → n ≡ normal a → ◌≡◌ {A = Slot → Bool} (with (on_ground n)) (with (λ s. same_area s.area a))
 unfolding same_area
-ground_asked a e = ap (λ (n : Area). with (on_ground n)) e
+asks_the_ground a e = ap (λ (n : Area). with (on_ground n)) e
 
 -- the links with a prefix that overlaps an address alone are those that reach the address
 pub address_asked : (a : List ℕ) → Below 256 a → ◌≡◌ {A = Slot → Bool} (with (overlapping (of_address a))) (with (λ s. reaches s a))

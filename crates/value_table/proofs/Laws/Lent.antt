@@ -10,8 +10,7 @@ use Rattle.links.specs.declared.HeadReply.{HeadReply}
 use Rattle.links.specs.declared.Slot.{Slot}
 use Rattle.links.specs.declared.Table.{Table}
 use Rattle.links.specs.Replies.{Reply, reply_of}
-use Rattle.links.specs.Slots.{in_use, counted, place, unused}
-use Rattle.links.specs.Settings.{stored}
+use Rattle.links.specs.Slots.{counted}
 use Rattle.links.specs.Calls.{TableCall, enable, disable, set_area, set_own, rules, link_after, table_after, answer, reply}
 use Rattle.links.specs.Run.{over, too_short, reply_over, Left}
 use Rattle.links.proofs.Laws.Run.{as_every_table}
