@@ -1,6 +1,6 @@
 -- A refusal that `map_err` made a fault of was a refusal, and what it left alone was none.
 use Rattle.std.specs.Prelude.{◌≡◌, Result, Ok, Err, IsErrAnd, MatchResult, refl}
-use mathlib.Core.Path.{sym, ◌∙◌, ap, subst}
+use mathlib.Core.Path.{subst}
 use Rattle.replies.specs.declared.Refusal.{Refusal}
 use Rattle.replies.specs.Numbers.{reply_number}
 use Rattle.traffic.specs.declared.Fault.{Fault}

@@ -1,5 +1,5 @@
 -- What a call over a run answers, by what refuses it before the rest is asked.
-use Rattle.std.specs.Prelude.{ℕ, zero, suc, ◌<◌, ◌≡◌, Bool, List, [], ◌++◌, length, replicate, refl}
+use Rattle.std.specs.Prelude.{ℕ, zero, suc, ◌<◌, ◌≡◌, List, [], ◌++◌, length, replicate, refl}
 use mathlib.Core.List.{append_assoc}
 use native.Mathlib.Omega.{arith}
 use mathlib.Core.Path.{sym, ◌∙◌, ap}

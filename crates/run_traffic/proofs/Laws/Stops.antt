@@ -1,5 +1,5 @@
 -- The place of the record of a chosen link.
-use Rattle.std.specs.Prelude.{ℕ, zero, suc, ◌+◌, ◌-◌, ◌<◌, ◌≤◌, ◌≡◌, Bool, true, false, cond, ◌||◌, List, length, take, get_or, eqb, Option, Some, None, MatchOption, refl, ◌≢◌, [], ◌∷◌}
+use Rattle.std.specs.Prelude.{ℕ, ◌<◌, ◌≡◌, Bool, true, false, cond, ◌||◌, List, length, take, get_or, eqb, Option, Some, None, MatchOption, refl, ◌≢◌, [], ◌∷◌}
 use native.Mathlib.Omega.{arith}
 use mathlib.Core.Path.{sym, ◌∙◌, ap, subst}
 use mathlib.Core.Bool.{and-false}

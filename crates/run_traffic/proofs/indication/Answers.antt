@@ -6,7 +6,7 @@ use Rattle.ipv6.specs.Packet.{fault_place}
 use Rattle.links.specs.declared.Chosen.{Chosen}
 use Rattle.links.specs.Run.{over}
 use Rattle.traffic.specs.Replies.{reception_of}
-use Rattle.traffic.specs.Arrives.{Received, indication, not_received, deliver_on}
+use Rattle.traffic.specs.Arrives.{Received, indication, deliver_on}
 use Rattle.run_traffic.proofs.Laws.Faults.{refused, passed}
 use Rattle.run_traffic.proofs.Laws.Refused.{received-refused, received_on}
 use Rattle.run_traffic.proofs.indication.Goals as goal

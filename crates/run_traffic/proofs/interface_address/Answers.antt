@@ -1,11 +1,10 @@
 -- `run_traffic::interface_address` meets its contract.
 use Rattle.std.proofs.Common.{rules, ◌≡◌, Err}
 use mathlib.Core.Path.{sym, ◌∙◌, ap}
-use Rattle.replies.specs.Numbers.{number_of}
 use Rattle.links.specs.declared.Named.{Named}
 use Rattle.links.specs.Run.{over}
 use Rattle.traffic.specs.Replies.{address_of}
-use Rattle.traffic.specs.Leaves.{answer_interface, interface_on}
+use Rattle.traffic.specs.Leaves.{interface_on}
 use Rattle.run_traffic.proofs.Laws.Refused.{address-refused, address_on}
 use Rattle.run_traffic.proofs.interface_address.Goals as goal
 

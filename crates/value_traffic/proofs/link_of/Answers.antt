@@ -4,7 +4,7 @@ use mathlib.Core.Path.{sym, ◌∙◌, ap}
 use Rattle.replies.specs.Numbers.{number_of}
 use Rattle.replies.proofs.Laws.Numbers.{number-not_0}
 use Rattle.links.specs.declared.Chosen.{Chosen}
-use Rattle.traffic.specs.Replies.{Choice, choice_made}
+use Rattle.traffic.specs.Replies.{choice_made}
 use Rattle.traffic.specs.Arrives.{indication}
 use Rattle.traffic.proofs.Laws.Receive.{unchosen, chosen_on}
 use Rattle.value_traffic.proofs.link_of.Goals as goal

@@ -1,5 +1,5 @@
 -- `run_traffic::choice::chosen_for` meets its contract.
-use Rattle.std.proofs.Common.{rules, arith, ◌≡◌, ◌-◌, ◌<◌, ℕ, length, take, Option, None, Some}
+use Rattle.std.proofs.Common.{arith, ◌-◌}
 use mathlib.Core.Path.{sym, ◌∙◌, ap}
 use borrow.Author.Tests.{eq-eqb, ne_eqb}
 use Rattle.links.specs.declared.Slot.{Slot}

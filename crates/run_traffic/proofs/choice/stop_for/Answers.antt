@@ -1,6 +1,6 @@
 -- `run_traffic::choice::stop_for` meets its contract.
-use Rattle.std.proofs.Common.{rules, arith, ◌≡◌, ◌-◌, ℕ, take, List, Option, None, refl, Some, eqb, ◌||◌, Bool, true, false, ◌⊎◌, inl, inr}
-use mathlib.Core.Path.{sym, ◌∙◌, ap}
+use Rattle.std.proofs.Common.{rules, ◌≡◌, ◌-◌, ℕ, take, List, Option, refl, eqb, ◌||◌, Bool, true, false, ◌⊎◌, inl, inr}
+use mathlib.Core.Path.{◌∙◌, ap}
 use Rattle.area.specs.declared.Area.{Area}
 use Rattle.area.specs.Area.{same_area}
 use Rattle.prefix.specs.Prefix.{of_address}
@@ -10,7 +10,6 @@ use Rattle.search.specs.Search.{overlapping, found_in}
 use Rattle.traffic.specs.declared.Destination.{Destination}
 use Rattle.traffic.specs.declared.Destination.TheVariants.{Mid, Nothing}
 use Rattle.traffic.specs.Arrives.{indication, is_area}
-use Rattle.run_traffic.specs.Choice.{stop_place}
 use Rattle.run_traffic.proofs.Laws.Stops.{by_address, by_ground, elsewhere, failing_that}
 use Rattle.run_traffic.proofs.choice.stop_for.Goals as goal
 
