@@ -2,7 +2,6 @@
 use Prim.Native.Nat.{◌/◌}
 use mathlib.Core.Path.{sym, ◌∙◌, ap}
 use lib.ListN.{length}
-use borrow.Author.Rules.{rules}
 use Rattle.replay.specs.Day.{Day, all_numbers, in_front}
 use Rattle.daylist.proofs.Laws.Listing.{dispatched_day, box_day}
 use Rattle.daylist.proofs.day_of.Goals as goal

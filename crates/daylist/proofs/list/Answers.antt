@@ -1,11 +1,9 @@
 -- `daylist::list` meets its contract.
-use Prim.Native.Nat.{ℕ, ◌*◌, ◌≤◌}
+use Prim.Native.Nat.{ℕ}
 use native.Mathlib.Omega.{arith}
 use mathlib.Core.Path.{sym, ◌∙◌, ap}
 use mathlib.Core.List.{List}
-use lib.ListN.{length}
 use lib.Seq.{length-take-le}
-use borrow.Author.Rules.{rules}
 use Rattle.listing.specs.Room.{text_buffer}
 use Rattle.daylist.proofs.Laws.Listing.{how_many, few-listed, within, stored-numbers}
 use Rattle.daylist.proofs.list.Goals as goal
