@@ -6,6 +6,7 @@ ghost use Rattle.area.specs.Area.{good_area, normal_longitude, described, is_rou
 
 #[derive(Clone, Copy, PartialEq, Eq)]
 pub struct Area {
+    // a number, since a shape outside the list is an input that 2 answers (good_area; the clause of area::good)
     pub shape: u8,
     pub latitude: i32,
     pub longitude: i32,

@@ -17,7 +17,7 @@ const MOST: usize = 65536;
 // On the dispatch server's table.
 const MOST_DISPATCHED: usize = 262144;
 
-// The day's lines as numbers: on document 01's table, or on the dispatch server's, over a run.
+// The day's lines as numbers: on a table by value, or on the dispatch server's, over a run.
 fn day_of(dispatched: bool, input: &[u8], out: &mut [u8], lines: &mut [u64]) -> usize
     ensures { (result ≡ length (day_into dispatched lines.old input.now out.old).lines) × (lines.new ≡ in_front (all_numbers (day_into dispatched lines.old input.now out.old).lines) lines.old) }
 {
@@ -27,10 +27,10 @@ fn day_of(dispatched: bool, input: &[u8], out: &mut [u8], lines: &mut [u64]) -> 
     replay::day(octets::part(input, 0, MOST), out, lines)
 }
 
-// So many lines are listed. On document 01's table no day has more.
+// So many lines are listed. On a table by value no day has more.
 const LINES: usize = 65536;
 
-// What was listed: how many bytes, whether they are all of these lines, and how many lines.
+// What was listed: how many bytes, whether they are all of these lines, and how many lines; bytes and lines count either way.
 #[derive(Clone, Copy)]
 struct Listed {
     length: usize,

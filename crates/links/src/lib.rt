@@ -43,7 +43,7 @@ pub const MOST_OVER_A_RUN: usize = 4093;
 // A link's interface: its kind and its resolve flag.
 #[derive(Clone, Copy)]
 pub struct Interface {
-    // a number, since a kind outside the list is an input that 1 answers (table_demand_1; the clause of value_table::enable)
+    // kind and flag are numbers, since one outside its list is an input that 1 answers (table_demand_1; the clause of value_table::enable)
     pub kind: u8,
     pub flag: u8,
 }
@@ -59,6 +59,7 @@ pub struct Settings {
 // The record of one stop index: the first slot is that of the first stop index.
 #[derive(Clone, Copy)]
 pub struct Slot {
+    // no Option of the settings, since a slot that is not enabled has some: they are blank (free, Sound.blank, Removes.gone)
     pub enabled: bool,
     pub settings: Settings,
 }
@@ -80,6 +81,7 @@ pub struct Table {
     pub tvl: Interface,
     pub dgvl: Interface,
     pub area: Option<Area>,
+    // an array with the maximum beside it: no heap, fixed memory
     pub slots: [Slot; SLOTS],
 }
 
@@ -103,6 +105,7 @@ pub struct Chosen {
 // The link that an index names: all that a request asks of it, whatever the layout of the table.
 #[derive(Clone, Copy)]
 pub struct Named {
+    // no Option of the link, since one that is not enabled has an interface and an area too (named; the clause of link_from)
     pub enabled: bool,
     pub interface: Interface,
     pub area: Option<Area>,
@@ -164,6 +167,7 @@ impl Table {
     }
 }
 
+// Two types and not one generic in what is given back: table and head are seen by two views (reply_of, Left).
 // What a call on the table answers: the link if it gives one, or why it is refused; and the table after it.
 #[derive(Clone, Copy)]
 pub struct TableReply {

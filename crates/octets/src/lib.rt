@@ -29,7 +29,7 @@ pub fn copy(from: &[u8], to: &mut [u8]) -> usize
     n
 }
 
-// The number that up to eight bytes are, for every width at once.
+// The number that up to eight bytes are, for every width at once: `from_be_bytes` takes all bytes of a type, and no six, and none fewer.
 fn number(s: &[u8]) -> u64
     requires { length s.now ≤ 8 }
     ensures { (result ≡ big_endian s.now) × (result < 256 ^ length s.now) }

@@ -130,7 +130,7 @@ pub fn overlap_within(s: Prefixes) -> bool
         | prefix::overlaps(c, d)
 }
 
-// The same, with the places past the count blank.
+// The same, with the places past the count blank; of_four takes the four by name.
 pub fn kept(s: Prefixes) -> Prefixes
     ensures { result ≡ kept s }
 {

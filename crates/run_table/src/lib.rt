@@ -1,5 +1,6 @@
 // RULES, A table over a run: the calls that alter the table, over a head by value and a lent run of link records, which are looked for,
 // read and stored where they lie.
+// Run and head stay two parameters: a struct with the lent run would be no plainer, since its owner lends the run anew for each call.
 #![tactic(auto)]
 
 ghost use Rattle.std.specs.Prelude.{◌≡◌, take};

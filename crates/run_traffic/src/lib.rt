@@ -1,5 +1,6 @@
 // RULES, A table over a run: what arrives and what leaves, over a head by value and a lent run of link records, which are looked for and
 // read where they lie. Neither head nor run changes.
+// Run and head stay two parameters: a struct with the lent run would be no plainer, since its owner lends the run anew for each call.
 #![tactic(auto)]
 
 pub mod choice;

@@ -10,7 +10,7 @@ use area::Area;
 use links::LinkIndex;
 use replies::Refusal;
 
-// The transports of GeoNetworking.
+// The transports of GeoNetworking. Numbers, what is sent too, so that what comes in and what goes down have one list.
 pub const GEO_UNICAST: u8 = 1;
 
 pub const GEO_ANYCAST: u8 = 2;
