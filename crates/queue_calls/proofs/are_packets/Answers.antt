@@ -1,10 +1,8 @@
 -- `queue_calls::are_packets`: what is left of the walk decides for the whole of it.
-use Prim.Native.Nat.{◌-◌, ◌≤◌}
 use native.Mathlib.Omega.{arith}
-use mathlib.Core.Path.{◌≡◌, refl, sym, ◌∙◌}
-use borrow.Author.Rules.{rules}
-use lib.ListN.{length, drop, length-drop}
-use Rattle.queue_calls.proofs.Laws.Walk.{walked, ends, Found, found, not_found}
+use mathlib.Core.Path.{refl, sym, ◌∙◌}
+use lib.ListN.{drop, length-drop}
+use Rattle.queue_calls.proofs.Laws.Walk.{ends, found, not_found}
 use Rattle.queue_calls.proofs.are_packets.Goals as goal
 
 pub loop-at-init : goal.loop-at-init

@@ -1,10 +1,8 @@
 -- `queue_calls::are_packets`: what is left of the walk decides for the whole of it.
 use Prim.Native.Nat.{◌-◌, ◌≤◌}
-use native.Mathlib.Omega.{arith}
-use mathlib.Core.Path.{◌≡◌, refl, sym, ◌∙◌}
-use borrow.Author.Rules.{rules}
-use lib.ListN.{length, drop, length-drop}
-use Rattle.queue_calls.proofs.Laws.Walk.{walked, ends, Found, found, not_found}
+use mathlib.Core.Path.{◌≡◌}
+use lib.ListN.{length, drop}
+use Rattle.queue_calls.proofs.Laws.Walk.{walked}
 use Rattle.queue_calls.proofs.are_packets.Given as goal
 
 abbrev pub invariant-loop-at : goal.invariant-loop-at

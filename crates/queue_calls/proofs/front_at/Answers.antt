@@ -1,8 +1,6 @@
 -- `queue_calls::front_at` meets its contract.
 use native.Mathlib.Omega.{arith}
-use mathlib.Core.Path.{◌≡◌, sym, ◌∙◌}
-use borrow.Author.Rules.{rules}
-use Rattle.numbers.specs.Numbers.{read_at}
+use mathlib.Core.Path.{sym, ◌∙◌}
 use Rattle.queue_calls.proofs.Laws.Front.{broken, too_long, cut, there, read_there}
 use Rattle.queue_calls.proofs.front_at.Goals as goal
 

@@ -4,8 +4,6 @@ use native.Mathlib.Omega.{arith}
 use mathlib.Core.Path.{◌≡◌, sym, ◌∙◌, ap}
 use mathlib.Core.List.{List, ◌++◌}
 use lib.ListN.{length, take, drop, length-take, length-drop}
-use lib.Seq.{take-length}
-use borrow.Author.Rules.{rules}
 use Rattle.numbers.specs.declared.NumberRun.{NumberRun}
 use Rattle.numbers.specs.Numbers.{number_bytes, written}
 use Rattle.frames.proofs.Laws.Put.{copied}

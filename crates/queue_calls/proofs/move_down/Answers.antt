@@ -1,11 +1,9 @@
 -- `queue_calls::move_down` meets its contract.
 use Prim.Native.Nat.{ℕ, ◌-◌, ◌≤◌}
 use native.Mathlib.Omega.{arith}
-use mathlib.Core.Path.{◌≡◌, sym, ◌∙◌, ap}
+use mathlib.Core.Path.{◌≡◌, ◌∙◌, ap}
 use mathlib.Core.List.{List, ◌++◌}
 use lib.ListN.{length, take, drop}
-use lib.Seq.{take-length, take-append_seam}
-use borrow.Author.Rules.{rules}
 use Rattle.frames.proofs.Laws.Put.{copied, kept}
 use Rattle.queue_calls.proofs.Laws.Moved.{held-behind, behind-length}
 use Rattle.queue_calls.proofs.move_down.Goals as goal
