@@ -16,6 +16,7 @@ use queues::{LONGEST, NextPacket, Queue, ROW, SIZE, State};
 use replies::Refusal;
 
 // The packet at a place of held bytes: its length, and the place behind that. None where adding can't have left one there.
+#[tactic(auto, using(crate::proofs::Laws::Front::broken, crate::proofs::Laws::Front::too_long, crate::proofs::Laws::Front::cut, crate::proofs::Laws::Front::there))]
 fn front_at(held: &[u8], at: usize) -> Option<(u64, usize)>
     ensures { result ≡ shifted at (front (drop at held.now)) }
 {
@@ -44,6 +45,7 @@ fn are_packets(held: &[u8]) -> bool
 }
 
 // Whether adding can leave the queue, with so many bytes held.
+#[tactic(auto, unfolding(queues::specs::Packets::good))]
 fn is_good(held: usize, queue: &[u8]) -> bool
     ensures { result ≡ good held queue.now }
 {
@@ -84,6 +86,7 @@ fn lay(queue: &mut [u8], held: usize, run: NumberRun, packet: &[u8])
 }
 
 // Adds to one queue, whichever it is, and answers the bytes then held.
+#[tactic(auto, using(crate::proofs::Laws::Added::not_added, crate::proofs::Laws::Added::is_added, crate::proofs::Laws::Added::added_fits, crate::proofs::Laws::Laid::digits_count))]
 fn add(held: usize, queue: &mut [u8], packet: &[u8]) -> Result<usize, Refusal>
     ensures number { reply_number result ≡ (add held queue.old packet.now).number }
     ensures held { held_after held result ≡ (add held queue.old packet.now).held }
@@ -96,6 +99,7 @@ fn add(held: usize, queue: &mut [u8], packet: &[u8]) -> Result<usize, Refusal>
     Ok(held + digits + packet.len())
 }
 
+#[tactic(auto, using(crate::proofs::Laws::Added::to_control))]
 pub fn add_control(state: State, queue: &mut [u8], packet: &[u8]) -> Result<State, Refusal>
     ensures { (reply_of state result ≡ add_to_control state queue.old packet.now) × (queue.new ≡ (add state.control queue.old packet.now).bytes) }
 {
@@ -103,6 +107,7 @@ pub fn add_control(state: State, queue: &mut [u8], packet: &[u8]) -> Result<Stat
     Ok(State { control, ..state })
 }
 
+#[tactic(auto, using(crate::proofs::Laws::Added::to_film))]
 pub fn add_film(state: State, queue: &mut [u8], packet: &[u8]) -> Result<State, Refusal>
     ensures { (reply_of state result ≡ add_to_film state queue.old packet.now) × (queue.new ≡ (add state.film queue.old packet.now).bytes) }
 {
@@ -142,6 +147,7 @@ fn shown_in(queue: Queue, held: &[u8]) -> NextPacket
     }
 }
 
+#[tactic(auto, using(crate::proofs::Laws::Shown::refused, crate::proofs::Laws::Shown::next_is))]
 pub fn show(state: State, control: &[u8], film: &[u8]) -> Result<NextPacket, Refusal>
     ensures { shown_of result ≡ show state control.now film.now }
 {
@@ -194,6 +200,7 @@ fn row_after(state: State) -> usize
     state.row + 1
 }
 
+#[tactic(auto, using(crate::proofs::Laws::Taken::not_taken, crate::proofs::Laws::Taken::control_taken, crate::proofs::Laws::Taken::film_taken))]
 pub fn take(state: State, control: &mut [u8], film: &mut [u8]) -> Result<State, Refusal>
     ensures { (reply_of state result ≡ (take_next state control.old film.old).reply) × (control.new ≡ (take_next state control.old film.old).control) × (film.new ≡ (take_next state control.old film.old).film) }
 {

@@ -1,5 +1,5 @@
 -- RULES, Two queues: adding, showing and taking. Refusals in their order, the state after a call, and every byte of the queues.
-use Rattle.std.specs.Prelude.{ℕ, ◌+◌, ◌-◌, Bool, true, false, cond, not, ◌&&◌, ◌||◌, List, [], ◌++◌, eqb, leb, ltb, length, take, drop, Option, Some, None}
+use Rattle.std.specs.Prelude.{ℕ, ◌+◌, ◌-◌, Bool, false, cond, not, ◌&&◌, ◌||◌, List, [], ◌++◌, eqb, leb, ltb, length, take, drop, Option, Some, None}
 use Rattle.replies.specs.Rules.{Rule, ◌if◌, ◌then◌, refusal}
 use Rattle.queues.specs.declared.State.{State}
 use Rattle.queues.specs.Replies.{Reply, Shown}

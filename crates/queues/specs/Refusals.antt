@@ -1,6 +1,6 @@
 -- RULES, Two queues (reply-24, reply-25, reply-37, reply-9): each number exactly under its condition, in the rules' words, and a refusal
 -- changes nothing. The conditions speak of lists of packets, and not of the walk.
-use Rattle.std.specs.Prelude.{ℕ, ◌+◌, ◌≤◌, ◌<◌, ◌≡◌, ◌⊎◌, ◌↔◌, ◌≢◌, List, length}
+use Rattle.std.specs.Prelude.{ℕ, ◌+◌, ◌≤◌, ◌<◌, ◌≡◌, ◌↔◌, ◌≢◌, List, length}
 use Rattle.replies.specs.Rules.{Exact}
 use Rattle.queues.specs.declared.State.{State}
 use Rattle.queues.specs.Packets.{packed, Left, Bytes}

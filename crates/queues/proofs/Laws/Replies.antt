@@ -1,5 +1,5 @@
 -- How the code's answers are read tells any two apart: so what a call promises of its answer, read so, determines it.
-use Rattle.std.specs.Prelude.{Bool, ◌≡◌, true, refl, Result, Ok, Err}
+use Rattle.std.specs.Prelude.{◌≡◌, refl, Result, Ok, Err}
 use mathlib.Core.Path.{sym, ◌∙◌, ap}
 use Rattle.replies.specs.declared.Refusal.{Refusal}
 use Rattle.replies.specs.Promise.{Determines}
@@ -30,8 +30,8 @@ shown_tells (Ok x) (Err f) e = absurd (number-not_0 f (sym (ap (λ (d : Shown). 
 shown_tells (Err d) (Ok y) e = absurd (number-not_0 d (ap (λ (d : Shown). d.number) e))
 shown_tells (Err d) (Err f) e = ap Err (number_injective d f (ap (λ (d : Shown). d.number) e))
 
-pub reply_determined : (s : State) (q : Reply) → Determines (λ (r : Result State Refusal). reply_of s r ≡ q)
-reply_determined s q a b e f = reply_tells s a b (e ∙ sym f)
+pub reply_of_determined : (s : State) (q : Reply) → Determines (λ (r : Result State Refusal). reply_of s r ≡ q)
+reply_of_determined s q a b e f = reply_tells s a b (e ∙ sym f)
 
-pub shown_determined : (d : Shown) → Determines (λ (r : Result NextPacket Refusal). shown_of r ≡ d)
-shown_determined d a b e f = shown_tells a b (e ∙ sym f)
+pub shown_of_determined : (d : Shown) → Determines (λ (r : Result NextPacket Refusal). shown_of r ≡ d)
+shown_of_determined d a b e f = shown_tells a b (e ∙ sym f)
