@@ -1,11 +1,11 @@
 -- What private functions of this crate answer, in the words of `queues`.
-use Rattle.std.specs.Prelude.{ℕ, ◌+◌}
-use Rattle.queues.specs.Calls.{Queue}
-use Rattle.queue_calls.specs.declared.Added.{Added}
+use Rattle.std.specs.Prelude.{ℕ, ◌+◌, Result, Ok, Err}
+use Rattle.replies.specs.declared.Refusal.{Refusal}
 
--- a queue after a call, but for its bytes
-abbrev pub added_of : Queue → Added
-added_of q = record { number = q.number; held = q.held }
+-- the bytes held after a call that adds
+abbrev pub held_after : ℕ → Result ℕ Refusal → ℕ
+held_after before (Ok after) = after
+held_after before (Err refusal) = before
 
 -- a place of memory so many bytes behind another: a block and a place in it
 abbrev pub behind : {Block : Type 0} → Block × ℕ → ℕ → Block × ℕ

@@ -2,18 +2,21 @@
 // it lies.
 #![tactic(auto)]
 
-ghost use Rattle.std.specs.Prelude.{◌≡◌, ◌+◌, ◌≤◌, length, take, drop};
+ghost use Rattle.std.specs.Prelude.{◌≡◌, ◌+◌, ◌≤◌, length, take, drop, Ok};
 ghost use Rattle.numbers.specs.Numbers.{number_bytes, shifted, written};
+ghost use Rattle.replies.specs.Numbers.{reply_number};
 ghost use Rattle.replies.specs.Rules.{refusal};
 ghost use Rattle.queues.specs.Packets.{packed, front, walks, good};
+ghost use Rattle.queues.specs.Replies.{reply_of, is_film, shown_of};
 ghost use Rattle.queues.specs.Calls.{add_rules, laid, add, add_to_control, add_to_film, next_rules, film_goes, shown_at, show, part_of, place_of, moved_down, row_after, take_next};
-ghost use Rattle.queue_calls.specs.Parts.{added_of, behind};
+ghost use Rattle.queue_calls.specs.Parts.{held_after, behind};
 
 use numbers::NumberRun;
-use queues::{LONGEST, ROW, Reply, SIZE, Shown, State};
-use replies::{DONE, PACKET_TOO_LONG, QUEUE_FULL, QUEUE_NOT_GOOD, QUEUES_EMPTY};
+use queues::{LONGEST, NextPacket, Queue, ROW, SIZE, State};
+use replies::Refusal;
 
 // The packet at a place of held bytes: its length, and the place behind that. None where adding can't have left one there.
+#[tactic(auto, using(crate::proofs::Laws::Front::broken, crate::proofs::Laws::Front::too_long, crate::proofs::Laws::Front::cut, crate::proofs::Laws::Front::there))]
 fn front_at(held: &[u8], at: usize) -> Option<(u64, usize)>
     ensures { result ≡ shifted at (front (drop at held.now)) }
 {
@@ -42,6 +45,7 @@ fn are_packets(held: &[u8]) -> bool
 }
 
 // Whether adding can leave the queue, with so many bytes held.
+#[tactic(auto, unfolding(queues::specs::Packets::good))]
 fn is_good(held: usize, queue: &[u8]) -> bool
     ensures { result ≡ good held queue.now }
 {
@@ -54,30 +58,21 @@ fn is_good(held: usize, queue: &[u8]) -> bool
     are_packets(&queue[..held])
 }
 
-// A queue after a packet is added to it, or not: the number, and the bytes held.
-#[derive(Clone, Copy)]
-struct Added {
-    number: u8,
-    held: usize,
-}
-
-// The packet's length takes so many digits.
-fn add_refusal(held: usize, queue: &[u8], packet: &[u8], digits: usize) -> u8
+// What refuses adding, in order. The packet's length takes so many digits.
+fn check_add(held: usize, queue: &[u8], packet: &[u8], digits: usize) -> Result<(), Refusal>
     requires { digits ≡ length (number_bytes (length packet.now)) }
-    ensures { result ≡ refusal (add_rules held queue.now packet.now) }
+    ensures { reply_number result ≡ refusal (add_rules held queue.now packet.now) }
 {
-    let bad = !is_good(held, queue);
-    let long = LONGEST < packet.len() as u64;
-    if bad {
-        return QUEUE_NOT_GOOD;
+    if !is_good(held, queue) {
+        return Err(Refusal::QueueNotGood);
     }
-    if long {
-        return PACKET_TOO_LONG;
+    if LONGEST < packet.len() as u64 {
+        return Err(Refusal::PacketTooLong);
     }
     if SIZE < held + digits + packet.len() {
-        return QUEUE_FULL;
+        return Err(Refusal::QueueFull);
     }
-    DONE
+    Ok(())
 }
 
 // The packet, preceded by its length, goes behind the bytes held.
@@ -90,63 +85,47 @@ fn lay(queue: &mut [u8], held: usize, run: NumberRun, packet: &[u8])
     frames::write_packet(&mut queue[at..], packet);
 }
 
-// Adds to one queue, whichever it is.
-fn add(held: usize, queue: &mut [u8], packet: &[u8]) -> Added
-    ensures { (result ≡ added_of (add held queue.old packet.now)) × (queue.new ≡ (add held queue.old packet.now).bytes) }
+// Adds to one queue, whichever it is, and answers the bytes then held.
+#[tactic(auto, using(crate::proofs::Laws::Added::not_added, crate::proofs::Laws::Added::is_added, crate::proofs::Laws::Added::added_fits, crate::proofs::Laws::Laid::digits_count))]
+fn add(held: usize, queue: &mut [u8], packet: &[u8]) -> Result<usize, Refusal>
+    ensures number { reply_number result ≡ (add held queue.old packet.now).number }
+    ensures held { held_after held result ≡ (add held queue.old packet.now).held }
+    ensures bytes { queue.new ≡ (add held queue.old packet.now).bytes }
 {
     let run = numbers::write(packet.len() as u64);
     let digits = run.length;
-    let number = add_refusal(held, queue, packet, digits);
-    if number != DONE {
-        return Added { number, held };
-    }
+    check_add(held, queue, packet, digits)?;
     lay(queue, held, run, packet);
-    Added {
-        number: DONE,
-        held: held + digits + packet.len(),
-    }
+    Ok(held + digits + packet.len())
 }
 
-pub fn add_control(state: State, queue: &mut [u8], packet: &[u8]) -> Reply
-    ensures { (result ≡ add_to_control state queue.old packet.now) × (queue.new ≡ (add state.control queue.old packet.now).bytes) }
+#[tactic(auto, using(crate::proofs::Laws::Added::to_control))]
+pub fn add_control(state: State, queue: &mut [u8], packet: &[u8]) -> Result<State, Refusal>
+    ensures { (reply_of state result ≡ add_to_control state queue.old packet.now) × (queue.new ≡ (add state.control queue.old packet.now).bytes) }
 {
-    let added = add(state.control, queue, packet);
-    Reply {
-        number: added.number,
-        state: State {
-            control: added.held,
-            film: state.film,
-            row: state.row,
-        },
-    }
+    let control = add(state.control, queue, packet)?;
+    Ok(State { control, ..state })
 }
 
-pub fn add_film(state: State, queue: &mut [u8], packet: &[u8]) -> Reply
-    ensures { (result ≡ add_to_film state queue.old packet.now) × (queue.new ≡ (add state.film queue.old packet.now).bytes) }
+#[tactic(auto, using(crate::proofs::Laws::Added::to_film))]
+pub fn add_film(state: State, queue: &mut [u8], packet: &[u8]) -> Result<State, Refusal>
+    ensures { (reply_of state result ≡ add_to_film state queue.old packet.now) × (queue.new ≡ (add state.film queue.old packet.now).bytes) }
 {
-    let added = add(state.film, queue, packet);
-    Reply {
-        number: added.number,
-        state: State {
-            control: state.control,
-            film: added.held,
-            row: state.row,
-        },
-    }
+    let film = add(state.film, queue, packet)?;
+    Ok(State { film, ..state })
 }
 
-fn next_refusal(state: State, control: &[u8], film: &[u8]) -> u8
-    ensures { result ≡ refusal (next_rules state control.now film.now) }
+// What refuses showing and taking, in order.
+fn check_next(state: State, control: &[u8], film: &[u8]) -> Result<(), Refusal>
+    ensures { reply_number result ≡ refusal (next_rules state control.now film.now) }
 {
-    let good = is_good(state.control, control) & is_good(state.film, film);
-    let empty = (state.control == 0) & (state.film == 0);
-    if !good {
-        return QUEUE_NOT_GOOD;
+    if !(is_good(state.control, control) && is_good(state.film, film)) {
+        return Err(Refusal::QueueNotGood);
     }
-    if empty {
-        return QUEUES_EMPTY;
+    if (state.control == 0) & (state.film == 0) {
+        return Err(Refusal::QueuesEmpty);
     }
-    DONE
+    Ok(())
 }
 
 // Whether the next packet is film's.
@@ -156,42 +135,27 @@ fn film_goes(state: State) -> bool
     (state.film != 0) & ((state.control == 0) | (ROW <= state.row))
 }
 
-// The first packet of these held bytes.
-fn shown_in(film: bool, held: &[u8]) -> Shown
-    ensures { result ≡ shown_at film (front held.now) }
+// The first packet of these held bytes, which are this queue's.
+fn shown_in(queue: Queue, held: &[u8]) -> NextPacket
+    ensures { shown_of (Ok result) ≡ shown_at (is_film queue) (front held.now) }
 {
-    match front_at(held, 0) {
-        Some((length, start)) => Shown {
-            number: DONE,
-            film,
-            at: start,
-            length: length as usize,
-        },
-        None => Shown {
-            number: DONE,
-            film,
-            at: 0,
-            length: 0,
-        },
+    let (length, at) = front_at(held, 0).unwrap_or((0, 0));
+    NextPacket {
+        queue,
+        at,
+        length: length as usize,
     }
 }
 
-pub fn show(state: State, control: &[u8], film: &[u8]) -> Shown
-    ensures { result ≡ show state control.now film.now }
+#[tactic(auto, using(crate::proofs::Laws::Shown::refused, crate::proofs::Laws::Shown::next_is))]
+pub fn show(state: State, control: &[u8], film: &[u8]) -> Result<NextPacket, Refusal>
+    ensures { shown_of result ≡ show state control.now film.now }
 {
-    let number = next_refusal(state, control, film);
-    if number != DONE {
-        return Shown {
-            number,
-            film: false,
-            at: 0,
-            length: 0,
-        };
-    }
+    check_next(state, control, film)?;
     if film_goes(state) {
-        return shown_in(true, octets::part(film, 0, state.film));
+        return Ok(shown_in(Queue::Film, octets::part(film, 0, state.film)));
     }
-    shown_in(false, octets::part(control, 0, state.control))
+    Ok(shown_in(Queue::Control, octets::part(control, 0, state.control)))
 }
 
 // Bytes of a queue, where they lie.
@@ -206,13 +170,13 @@ fn part_there<'a>(queue: &'a [u8], at: usize, n: usize) -> &'a [u8]
 pub fn next_packet<'a>(state: State, control: &'a [u8], film: &'a [u8]) -> &'a [u8]
     ensures { (result.now ≡ part_of (show state control.now film.now) control.now film.now) × (result.ref_ptr ≡ place_of (show state control.now film.now) control.entry.ref_ptr film.entry.ref_ptr) }
 {
-    let shown = show(state, control, film);
-    let at = shown.at;
-    let n = shown.length;
-    if shown.film {
-        return part_there(film, at, n);
+    let Ok(next) = show(state, control, film) else {
+        return part_there(control, 0, 0);
+    };
+    match next.queue {
+        Queue::Control => part_there(control, next.at, next.length),
+        Queue::Film => part_there(film, next.at, next.length),
     }
-    part_there(control, at, n)
 }
 
 // The first n held bytes go, and the others move down. By way of a local array, because the compiler makes one move of memory of
@@ -236,38 +200,29 @@ fn row_after(state: State) -> usize
     state.row + 1
 }
 
-pub fn take(state: State, control: &mut [u8], film: &mut [u8]) -> Reply
-    ensures { (result ≡ (take_next state control.old film.old).reply) × (control.new ≡ (take_next state control.old film.old).control) × (film.new ≡ (take_next state control.old film.old).film) }
+#[tactic(auto, using(crate::proofs::Laws::Taken::not_taken, crate::proofs::Laws::Taken::control_taken, crate::proofs::Laws::Taken::film_taken))]
+pub fn take(state: State, control: &mut [u8], film: &mut [u8]) -> Result<State, Refusal>
+    ensures { (reply_of state result ≡ (take_next state control.old film.old).reply) × (control.new ≡ (take_next state control.old film.old).control) × (film.new ≡ (take_next state control.old film.old).film) }
 {
-    let shown = show(state, control, film);
-    if shown.number != DONE {
-        return Reply {
-            number: shown.number,
-            state,
-        };
-    }
-    let n = shown.at + shown.length;
+    let next = show(state, control, film)?;
+    let n = next.at + next.length;
     let row = row_after(state);
-    if shown.film {
-        let held = state.film;
-        move_down(film, n, held);
-        return Reply {
-            number: DONE,
-            state: State {
-                control: state.control,
-                film: held - n,
+    match next.queue {
+        Queue::Control => {
+            move_down(control, n, state.control);
+            Ok(State {
+                control: state.control - n,
                 row,
-            },
-        };
-    }
-    let held = state.control;
-    move_down(control, n, held);
-    Reply {
-        number: DONE,
-        state: State {
-            control: held - n,
-            film: state.film,
-            row,
-        },
+                ..state
+            })
+        }
+        Queue::Film => {
+            move_down(film, n, state.film);
+            Ok(State {
+                film: state.film - n,
+                row,
+                ..state
+            })
+        }
     }
 }

@@ -2,8 +2,7 @@
 use Rattle.std.specs.Prelude.{ℕ, ◌+◌, ◌-◌, Bool, false, cond, not, ◌&&◌, ◌||◌, List, [], ◌++◌, eqb, leb, ltb, length, take, drop, Option, Some, None}
 use Rattle.replies.specs.Rules.{Rule, ◌if◌, ◌then◌, refusal}
 use Rattle.queues.specs.declared.State.{State}
-use Rattle.queues.specs.declared.Reply.{Reply}
-use Rattle.queues.specs.declared.Shown.{Shown}
+use Rattle.queues.specs.Replies.{Reply, Shown}
 use Rattle.queues.specs.Packets.{packed, front, good}
 
 -- queue-state

@@ -1,4 +1,5 @@
 pub mod Packets
+pub mod Replies
 pub mod Calls
 pub mod Refusals
 pub mod Channel

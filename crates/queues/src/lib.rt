@@ -22,19 +22,16 @@ pub struct State {
     pub row: usize,
 }
 
-// What adding and taking answer: the number, and the state after it.
-#[derive(Clone, Copy)]
-pub struct Reply {
-    pub number: u8,
-    pub state: State,
+#[derive(Clone, Copy, PartialEq, Eq, Debug)]
+pub enum Queue {
+    Control,
+    Film,
 }
 
-// What showing answers: the number, whether film's queue holds the next packet (else it is control's), and where in it the packet
-// stands.
+// Where the next packet stands, behind its length, and how long it is.
 #[derive(Clone, Copy)]
-pub struct Shown {
-    pub number: u8,
-    pub film: bool,
+pub struct NextPacket {
+    pub queue: Queue,
     pub at: usize,
     pub length: usize,
 }

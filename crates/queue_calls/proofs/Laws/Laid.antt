@@ -53,3 +53,7 @@ unfolding packed
 is_laid held at queue p e =
     let behind : at + length p ≡ held + length (packed p) = omega (arith, length-packed p) in
     rw (append_assoc (take held queue) (number_bytes (length p)) p) (ap (λ (n : ℕ). take held queue ++ (number_bytes (length p) ++ p) ++ drop n queue) behind)
+
+-- what is held with the packet, in the numbers of the code
+pub needed : (held : ℕ) (run : NumberRun) (p : List ℕ) → run ≡ written (length p) → held + run.length + length p ≡ held + length (packed p)
+needed held run p e = omega (arith, digits_count run (length p) e, length-packed p)

@@ -1,19 +1,21 @@
 -- What showing answers, by the tests of the code; and that what it shows lies in its queue.
-use Rattle.std.specs.Prelude.{Option, Some, None}
+use Rattle.std.specs.Prelude.{Option, Some, None, Ok}
 use Prim.Native.Nat.{ℕ, zero, suc, ◌+◌, ◌≤◌}
 use native.Mathlib.Omega.{arith}
-use mathlib.Core.Path.{◌≡◌, refl, sym, ◌∙◌, ap, subst}
+use mathlib.Core.Path.{◌≡◌, refl, sym, ap, subst}
 use mathlib.Core.Logic.{◌≢◌}
 use mathlib.Core.Bool.{Bool, true, false, cond, not, ◌&&◌, and-eq-true_iff}
 use mathlib.Core.List.{List, []}
 use lib.Dec.{eqb}
-use lib.ListN.{length, take, drop, length-take}
+use lib.ListN.{length, take, length-take}
 use borrow.Author.Tests.{ne_eqb}
 use Rattle.replies.specs.Rules.{◌if◌, ◌then◌, refusal}
 use Rattle.queues.specs.declared.State.{State}
-use Rattle.queues.specs.declared.Shown.{Shown}
+use Rattle.queues.specs.declared.NextPacket.{NextPacket}
+use Rattle.queues.specs.declared.Queue.{Queue}
+use Rattle.queues.specs.Replies.{Shown, is_film, shown_of}
 use Rattle.queues.specs.Packets.{front, good}
-use Rattle.queues.specs.Calls.{next_rules, film_goes, shown_at, next_held, show, part_of, place_of}
+use Rattle.queues.specs.Calls.{next_rules, film_goes, shown_at, show}
 use Rattle.queues.proofs.Laws.Packets.{front-within}
 use Rattle.queue_calls.proofs.Laws.Good.{Fitting, good-fits}
 
@@ -22,13 +24,9 @@ module _ (s : State) (control film : List ℕ) where
   unfolding show
   refused n e h = rw (← e, ne_eqb n 0 h)
 
-  pub next_is : (n : ℕ) (goes : Bool) → n ≡ refusal (next_rules s control film) → n ≡ 0 → film_goes s ≡ goes → shown_at goes (front (cond goes (take s.film film) (take s.control control))) ≡ show s control film
+  pub next_is : (goes : Bool) → 0 ≡ refusal (next_rules s control film) → film_goes s ≡ goes → shown_at goes (front (cond goes (take s.film film) (take s.control control))) ≡ show s control film
   unfolding show
-  next_is n goes e z g = rw (← e, z, g)
-
-shown-number : (film : Bool) (r : Option (ℕ × ℕ)) → (shown_at film r).number ≡ 0
-shown-number film (Some (n, k)) = refl
-shown-number film None = refl
+  next_is goes e g = rw (← e, g)
 
 -- What a packet that is shown lies in: the bytes held in its queue, and these in the queue, which is of its size
 pub record Lies (d : Shown) (s : State) (control film : List ℕ) : Type 0 where
@@ -57,41 +55,20 @@ lies s control film e = go (refusal (next_rules s control film)) refl
     there false None z p = record { held_within = in_held s.control control None false p; fits = good-fits s.control control (both_good s control film z).0 }
 
     go : (n : ℕ) → refusal (next_rules s control film) ≡ n → Lies (show s control film) s control film
-    go zero z = subst (λ (d : Shown). Lies d s control film) (next_is s control film 0 (film_goes s) (sym z) refl refl) (there (film_goes s) _ z refl)
+    go zero z = subst (λ (d : Shown). Lies d s control film) (next_is s control film (film_goes s) (sym z) refl) (there (film_goes s) _ z refl)
     go (suc n) z =
         let not_done : (show s control film).number ≡ suc n = ap (λ (d : Shown). d.number) (sym (refused s control film (suc n) (sym z) (λ w. omega arith))) in
         absurd (omega arith)
 
--- a refused one shows nothing, at the front of control
-pub shown_part : (s : State) (control film : List ℕ) → (show s control film).at + (show s control film).length ≤ length (cond (show s control film).film film control)
-shown_part s control film = go (refusal (next_rules s control film)) refl
-  where
-    go : (n : ℕ) → refusal (next_rules s control film) ≡ n → (show s control film).at + (show s control film).length ≤ length (cond (show s control film).film film control)
-    go zero z =
-        let number : (show s control film).number ≡ 0 = ap (λ (d : Shown). d.number) (sym (next_is s control film 0 (film_goes s) (sym z) refl refl)) ∙ shown-number (film_goes s) (front (next_held s control film)) in
-        let l = lies s control film number in
-        omega (arith, l.held_within, l.fits.size, l.fits.few)
-    go (suc n) z = subst (λ (d : Shown). d.at + d.length ≤ length (cond d.film film control)) (refused s control film (suc n) (sym z) (λ w. omega arith)) (omega arith)
-
--- The bytes shown, and where they lie, by the queue that holds them
-module _ (d r : Shown) (inFilm : Bool) (e : r ≡ d) (f : r.film ≡ inFilm) (control film : List ℕ) where
-  pub part_is : take r.length (drop r.at (cond inFilm film control)) ≡ part_of d control film
-  part_is = ap (λ (b : Bool). take r.length (drop r.at (cond b film control))) (sym f) ∙ ap (λ (x : Shown). part_of x control film) e
-
-  pub place_is : {Block : Type 0} (c f : Block × ℕ) → ◌≡◌ {A = Block × ℕ} (cond inFilm f.0 c.0, r.at + cond inFilm f.1 c.1) (place_of d c f)
-  place_is {Block} c g = ap (λ (b : Bool). (cond b g.0 c.0, r.at + cond b g.1 c.1)) (sym f) ∙ ap (λ (x : Shown). place_of x c g) e
-
-  pub part_within : d.at + d.length ≤ length (cond d.film film control) → r.at + r.length ≤ length (cond inFilm film control)
-  part_within h = subst (λ (b : Bool). r.at + r.length ≤ length (cond b film control)) f (subst (λ (x : Shown). x.at + x.length ≤ length (cond x.film film control)) (sym e) h)
-
--- Of a reply r that is what showing answers, and that is not refused, by the queue that it names
-pub record InQueue (r : Shown) (held : ℕ) (queue : List ℕ) : Type 0 where
-  pub held_within : r.at + r.length ≤ held
+-- the same of the next packet that showing answers, by the queue that it names
+pub record InQueue (next : NextPacket) (held : ℕ) (queue : List ℕ) : Type 0 where
+  pub held_within : next.at + next.length ≤ held
   pub few : held ≤ 4096
   pub size : length queue ≡ 4096
 
-pub in_queue : (s : State) (control film : List ℕ) (r : Shown) (b : Bool) → r ≡ show s control film → r.number ≡ 0 → r.film ≡ b → InQueue r (cond b s.film s.control) (cond b film control)
-in_queue s control film r b e z f =
-    let l = subst (λ (d : Shown). Lies d s control film) (sym e) (lies s control film (ap (λ (d : Shown). d.number) (sym e) ∙ z)) in
-    subst (λ (t : Bool). InQueue r (cond t s.film s.control) (cond t film control)) f
+pub in_queue : (s : State) (control film : List ℕ) (next : NextPacket) (queue : Queue) → shown_of (Ok next) ≡ show s control film → next.queue ≡ queue
+    → InQueue next (cond (is_film queue) s.film s.control) (cond (is_film queue) film control)
+in_queue s control film next queue e f =
+    let l = subst (λ (d : Shown). Lies d s control film) (sym e) (lies s control film (ap (λ (d : Shown). d.number) (sym e))) in
+    subst (λ (q : Queue). InQueue next (cond (is_film q) s.film s.control) (cond (is_film q) film control)) f
     (record { held_within = l.held_within; few = l.fits.few; size = l.fits.size })

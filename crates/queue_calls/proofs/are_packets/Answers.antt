@@ -1,12 +1,9 @@
 -- `queue_calls::are_packets`: what is left of the walk decides for the whole of it.
 use native.Mathlib.Omega.{arith}
-use mathlib.Core.Path.{refl, sym, ◌∙◌}
+use mathlib.Core.Path.{sym, ◌∙◌}
 use lib.ListN.{drop, length-drop}
 use Rattle.queue_calls.proofs.Laws.Walk.{ends, found, not_found}
 use Rattle.queue_calls.proofs.are_packets.Goals as goal
-
-pub loop-at-init : goal.loop-at-init
-loop-at-init c = (omega arith, refl)
 
 pub returns-in_default : goal.returns-in_default
 returns-in_default c =

@@ -35,12 +35,6 @@ with-digits held run queue p from after r e h f g k =
 pub overflow_add-at : goal.overflow_add-at
 overflow_add-at c = omega (arith, room c.args.held c.args.run c.args.queue.now c.args.packet.now c.requires.0 c.requires.1)
 
-pub slice_bounds-copy-count : goal.slice_bounds-copy-count
-slice_bounds-copy-count c = omega (arith, room c.args.held c.args.run c.args.queue.now c.args.packet.now c.requires.0 c.requires.1)
-
-pub slice_bounds-copy-start : goal.slice_bounds-copy-start
-slice_bounds-copy-start c = omega (arith, room c.args.held c.args.run c.args.queue.now c.args.packet.now c.requires.0 c.requires.1)
-
 pub slice_bounds-write_packet-count : goal.slice_bounds-write_packet-count
 slice_bounds-write_packet-count c =
     let args = c.args in

@@ -1,36 +1,15 @@
 -- `queue_calls::next_packet` meets its contract.
-use mathlib.Core.Path.{◌∙◌}
-use mathlib.Core.Bool.{true, false}
-use Rattle.queues.specs.Calls.{show}
-use Rattle.queue_calls.proofs.Laws.Shown.{shown_part, part_is, place_is, part_within}
+use native.Mathlib.Omega.{arith}
+use Rattle.queues.specs.declared.Queue.TheVariants.{Control, Film}
+use Rattle.queue_calls.proofs.Laws.Shown.{in_queue}
 use Rattle.queue_calls.proofs.next_packet.Goals as goal
 
-pub part_there-requires : goal.part_there-requires
-part_there-requires c =
-    let args = c.args in
-    part_within (show args.state args.control.now args.film.now) c.show-shown.result true c.show-shown.ensures c.if-shown.true args.control.now args.film.now (shown_part args.state args.control.now args.film.now)
+pub part_there-requires-in-Control : goal.part_there-requires-in-Control
+part_there-requires-in-Control c =
+    let there = in_queue c.args.state c.args.control.now c.args.film.now c.in-Ok.next Control c.in-Ok.ensures c.in-Control.is in
+    omega (arith, there.held_within, there.few, there.size)
 
-pub returns-then-shown : goal.returns-then-shown
-returns-then-shown c =
-    let args = c.args in
-    let d = show args.state args.control.now args.film.now in
-    let r = c.show-shown.result in
-    let e = c.show-shown.ensures in (
-      c.part_there.ensures.0 ∙ part_is d r true e c.if-shown.true args.control.now args.film.now,
-      c.part_there.ensures.1 ∙ place_is d r true e c.if-shown.true args.control.now args.film.now args.control.ref_ptr args.film.ref_ptr,
-    )
-
-pub part_there-requires-2 : goal.part_there-requires-2
-part_there-requires-2 c =
-    let args = c.args in
-    part_within (show args.state args.control.now args.film.now) c.show-shown.result false c.show-shown.ensures c.if-shown.false args.control.now args.film.now (shown_part args.state args.control.now args.film.now)
-
-pub returns : goal.returns
-returns c =
-    let args = c.args in
-    let d = show args.state args.control.now args.film.now in
-    let r = c.show-shown.result in
-    let e = c.show-shown.ensures in (
-      c.part_there-2.ensures.0 ∙ part_is d r false e c.if-shown.false args.control.now args.film.now,
-      c.part_there-2.ensures.1 ∙ place_is d r false e c.if-shown.false args.control.now args.film.now args.control.ref_ptr args.film.ref_ptr,
-    )
+pub part_there-requires-in-Film : goal.part_there-requires-in-Film
+part_there-requires-in-Film c =
+    let there = in_queue c.args.state c.args.control.now c.args.film.now c.in-Ok.next Film c.in-Ok.ensures c.in-Film.is in
+    omega (arith, there.held_within, there.few, there.size)

@@ -15,7 +15,7 @@ use Rattle.replies.specs.Rules.{refusal}
 use Rattle.replies.proofs.Laws.Refusals.{done-exactly}
 use Rattle.numbers.specs.Numbers.{number_bytes}
 use Rattle.queues.specs.declared.State.{State}
-use Rattle.queues.specs.declared.Shown.{Shown}
+use Rattle.queues.specs.Replies.{Shown}
 use Rattle.queues.specs.Packets.{packed, queued, Short, Left, front}
 use Rattle.queues.specs.Calls.{empty, add_rules, laid, add, add_to_control, add_to_film, next_rules, film_goes, shown_at, show, part_of, moved_down, row_after, take_shown, take_next}
 use Rattle.queues.specs.Channel.{Channel, Call, AddToControl, AddToFilm, Show, Take, number, after, Sent, FromControl, FromFilm, shown, sends, played, Waiting, Reached, begun, called, ReachedWaits, AddingLeaves}
