@@ -174,7 +174,9 @@ fn bad_packet(rt: &HostRuntime, expected: &str, packet: &[u8]) -> io::Result<()>
 }
 
 fn parts_that_are_bad(rt: &HostRuntime) -> io::Result<()> {
-    bad_packet(rt, "of 39 bytes: expected 20 at 39", &packet()[..39])?;
+    let whole = packet();
+    let cut = octets::part(&whole, 0, 39);
+    bad_packet(rt, "of 39 bytes: expected 20 at 39", cut)?;
     let mut version_five = packet();
     version_five[0] = 0x50;
     bad_packet(rt, "of version 5: expected 21 at 0", &version_five)?;
