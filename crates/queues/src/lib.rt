@@ -22,6 +22,7 @@ pub struct State {
     pub row: usize,
 }
 
+// Which of the two.
 #[derive(Clone, Copy, PartialEq, Eq, Debug)]
 pub enum Queue {
     Control,
