@@ -3,7 +3,7 @@
 
 ghost use Rattle.std.specs.Prelude.{◌≡◌};
 ghost use Rattle.octets.specs.Runs.{same};
-ghost use Rattle.replies.specs.Numbers.{number_of, reply_number};
+ghost use Rattle.replies.specs.Numbers.{reply_number};
 ghost use Rattle.replies.specs.Rules.{refusal};
 ghost use Rattle.ipv6.specs.Address.{multicast, zeros_then, loopback, unspecified, good_hop};
 ghost use Rattle.ipv6.specs.Packet.{source, destination, forbidden, packet_rules, fault_place};
@@ -99,16 +99,19 @@ pub fn check_packet(packet: &[u8]) -> Result<(), Refusal>
     Ok(())
 }
 
-// The place in the packet that a refusal gives: where the fault stands, and 0 where none does.
-#[tactic(auto, using(replies::proofs::Laws::Numbers::number_injective), unfolding(crate::specs::Packet::fault_place))]
-pub fn fault_place(refusal: Refusal, packet: &[u8]) -> usize
-    ensures { result ≡ fault_place (number_of refusal) packet.now }
+// The place in the packet that a reply of this number gives: where the fault stands, and 0 where none does. Of any number, so that it asks
+// no more of a caller than the rule does.
+#[tactic(auto, unfolding(crate::specs::Packet::fault_place))]
+pub fn fault_place(number: u8, packet: &[u8]) -> usize
+    ensures { result ≡ fault_place number packet.now }
 {
-    match refusal {
-        Refusal::PacketShort => packet.len(),
-        Refusal::LengthFieldWrong => 4,
-        _ => 0,
+    if number == Refusal::PacketShort.number() {
+        return packet.len();
     }
+    if number == Refusal::LengthFieldWrong.number() {
+        return 4;
+    }
+    0
 }
 
 #[tactic(auto, unfolding(crate::specs::Identifier::flipped))]

@@ -99,6 +99,7 @@ pub struct Head {
 #[derive(Clone, Copy)]
 pub struct Chosen {
     pub index: LinkIndex,
+    // a number like that of an interface, of which it is
     pub kind: u8,
 }
 

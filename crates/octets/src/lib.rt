@@ -20,7 +20,8 @@ pub fn equal(a: &[u8], b: &[u8]) -> bool
     a == b
 }
 
-// Copies bytes to the front of a slice, as many as it has room for, and answers how many. The others stay as they were.
+// Copies bytes to the front of a slice, as many as it has room for, and answers how many. The others stay as they were. The library's
+// copy_from_slice asks for equal lengths.
 pub fn copy(from: &[u8], to: &mut [u8]) -> usize
     ensures { (result ≡ min (length from.now) (length to.old)) × (to.new ≡ take (length to.old) from.now ++ drop (length from.now) to.old) }
 {

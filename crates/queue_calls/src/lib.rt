@@ -99,6 +99,7 @@ fn add(held: usize, queue: &mut [u8], packet: &[u8]) -> Result<usize, Refusal>
     Ok(held + digits + packet.len())
 }
 
+// Two calls of two lines, for control and for film: each alters its own field of the state, and `add` is the work of both.
 #[tactic(auto, using(crate::proofs::Laws::Added::to_control))]
 pub fn add_control(state: State, queue: &mut [u8], packet: &[u8]) -> Result<State, Refusal>
     ensures { (reply_of state result ≡ add_to_control state queue.old packet.now) × (queue.new ≡ (add state.control queue.old packet.now).bytes) }
@@ -200,6 +201,7 @@ fn row_after(state: State) -> usize
     state.row + 1
 }
 
+// Each branch moves its own queue down and lessens its own field of the state.
 #[tactic(auto, using(crate::proofs::Laws::Taken::not_taken, crate::proofs::Laws::Taken::control_taken, crate::proofs::Laws::Taken::film_taken))]
 pub fn take(state: State, control: &mut [u8], film: &mut [u8]) -> Result<State, Refusal>
     ensures { (reply_of state result ≡ (take_next state control.old film.old).reply) × (control.new ≡ (take_next state control.old film.old).control) × (film.new ≡ (take_next state control.old film.old).film) }

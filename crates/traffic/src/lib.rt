@@ -49,6 +49,7 @@ pub struct RequestHead {
 #[derive(Clone, Copy)]
 pub struct Fault {
     pub refusal: Refusal,
+    // 0 for a refusal of no part of the packet, and for 21 whose part stands there (packet-place)
     pub place: usize,
 }
 
@@ -59,7 +60,7 @@ impl Fault {
     {
         Fault {
             refusal,
-            place: ipv6::fault_place(refusal, packet),
+            place: ipv6::fault_place(refusal.number(), packet),
         }
     }
 }
@@ -76,6 +77,7 @@ pub struct Delivery {
 // What a request sends down to GeoNetworking with its packet.
 #[derive(Clone, Copy)]
 pub struct Sent {
+    // a number like that of an indication: one list of transports for what comes in and what goes down
     pub transport: u8,
     pub destination: Destination,
     pub class: u8,

@@ -1,5 +1,7 @@
 // RULES, What arrives and What leaves, over a table by value: its own slots are lent as the run of a table over a run, where the link
 // is looked for, and the rest is `arrives` and `leaves`. No run is too short here (23). The table does not change.
+// The three calls have the parts of those of `run_traffic` without 23, and do not call them: no plainer, since a law more would have to
+// say that a lent table with another maximum answers alike.
 #![tactic(auto)]
 
 ghost use Rattle.std.specs.Prelude.{◌≡◌, MatchResult};

@@ -10,5 +10,5 @@ pub returns : goal.returns
 returns g c =
     position_from_yields_List (g.Q.Question.test c.args.asked) _ _ _ c.position.ensures.ran
     (YieldsList-from_take _ (YieldsList-from_slice c.args.run.now cc) c.take.ensures.count)
-    (λ x b q k. search (rules, tests))
+    (λ x b q k. let looked = g.met.Q.Question.looked c.args.asked x.now in search (rules, tests))
     ∙ found_by_position _ _

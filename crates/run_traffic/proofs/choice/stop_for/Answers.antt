@@ -35,7 +35,7 @@ returns-in-Within c =
     let args = c.args in
     let l = take (args.max - 1) args.run.now in
     let e : (eqb args.h.transport 2 || eqb args.h.transport 3) ≡ true = search rules in
-    asks args.run.now _ (args.max - 1) _ (with (λ s. same_area s.area c.in-Within.area)) c.find-in-Within.result c.find-in-Within.ensures c.slot_count-count.ensures c.of.ensures
+    asks args.run.now _ (args.max - 1) _ (with (λ s. same_area s.area c.in-Within.area)) c.find-in-Within.result c.find-in-Within.ensures c.slot_count-count.ensures c.of.ensures.asks
     ∙ by_ground l (indication args.h args.packet.now) e c.in-Within.area c.in-Within.is
 
 -- a destination that is no area
