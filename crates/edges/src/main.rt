@@ -70,12 +70,7 @@ fn packet() -> [u8; 40] {
 }
 
 // What the enable of one more link is answered: the number of its refusal, or its link.
-fn print_enabled(
-    rt: &HostRuntime,
-    expected: &str,
-    table: Table,
-    second: Settings,
-) {
+fn print_enabled(rt: &HostRuntime, expected: &str, table: Table, second: Settings) {
     let _ = match value_table::enable(table, second).answer {
         Ok(Some(index)) => println!(rt; "{expected} got link {}", index.0),
         Ok(None) => println!(rt; "{expected} got no link"),
@@ -107,13 +102,7 @@ fn from_two(transport: u8, destination: Destination) -> IndicationHead {
 }
 
 // The link that an indication is delivered on.
-fn print_link(
-    rt: &HostRuntime,
-    expected: &str,
-    table: Table,
-    h: IndicationHead,
-    packet: &[u8],
-) {
+fn print_link(rt: &HostRuntime, expected: &str, table: Table, h: IndicationHead, packet: &[u8]) {
     let mut buffer = [0u8; 1294];
     let _ = match value_traffic::indication(table, h, packet, &mut buffer) {
         Ok(delivery) => println!(rt; "{expected} got link {}", delivery.link.0),
