@@ -1,12 +1,13 @@
 // RULES, Cases at the edges: those not marked *, each printed with what is expected and what came. The twin prints the
-// same lines from its own code.
+// same lines from its own code. A line that standard output does not take can be told nowhere: the others are printed, and the program
+// ends as ever.
 #![tactic(auto)]
 
 use area::Area;
 use links::{Interface, LinkIndex, Settings, StartValues, Table};
 use prefix::Prefix;
 use prefixes::Prefixes;
-use std::{fmt, io};
+use std::fmt;
 use traffic::{Destination, Fault, IndicationHead, RequestHead, Sent};
 
 fn rectangle(latitude: i32, angle: u16) -> Area {
@@ -69,20 +70,15 @@ fn packet() -> [u8; 40] {
 }
 
 // What the enable of one more link is answered: the number of its refusal, or its link.
-fn print_enabled(
-    rt: &HostRuntime,
-    expected: &str,
-    table: Table,
-    second: Settings,
-) -> io::Result<()> {
-    match value_table::enable(table, second).answer {
+fn print_enabled(rt: &HostRuntime, expected: &str, table: Table, second: Settings) {
+    let _ = match value_table::enable(table, second).answer {
         Ok(Some(index)) => println!(rt; "{expected} got link {}", index.0),
         Ok(None) => println!(rt; "{expected} got no link"),
         Err(refusal) => println!(rt; "{expected} got {}", refusal.number()),
-    }
+    };
 }
 
-fn second_stop(rt: &HostRuntime) -> io::Result<()> {
+fn second_stop(rt: &HostRuntime) {
     let list = prefixes::single(prefix::of_bytes(
         8,
         &[0x20, 0, 0, 0, 0, 0, 0, 0, 0, 0, 0, 0, 0, 0, 0, 0],
@@ -92,7 +88,7 @@ fn second_stop(rt: &HostRuntime) -> io::Result<()> {
         "second stop link at maximum 2: expected 6",
         with_one_stop(),
         settings(rectangle(1_000, 90), plain(), list),
-    )
+    );
 }
 
 // An indication from MID 2 with class 0.
@@ -106,21 +102,15 @@ fn from_two(transport: u8, destination: Destination) -> IndicationHead {
 }
 
 // The link that an indication is delivered on.
-fn print_link(
-    rt: &HostRuntime,
-    expected: &str,
-    table: Table,
-    h: IndicationHead,
-    packet: &[u8],
-) -> io::Result<()> {
+fn print_link(rt: &HostRuntime, expected: &str, table: Table, h: IndicationHead, packet: &[u8]) {
     let mut buffer = [0u8; 1294];
-    match value_traffic::indication(table, h, packet, &mut buffer) {
+    let _ = match value_traffic::indication(table, h, packet, &mut buffer) {
         Ok(delivery) => println!(rt; "{expected} got link {}", delivery.link.0),
         Err(fault) => println!(rt; "{expected} got reply {}", fault.refusal.number()),
-    }
+    };
 }
 
-fn broadcast_beside_the_stop(rt: &HostRuntime) -> io::Result<()> {
+fn broadcast_beside_the_stop(rt: &HostRuntime) {
     print_link(
         rt,
         "broadcast to a rectangle with the angle one off: expected link 1",
@@ -130,10 +120,10 @@ fn broadcast_beside_the_stop(rt: &HostRuntime) -> io::Result<()> {
             Destination::Within(rectangle(0, 91)),
         ),
         &packet(),
-    )
+    );
 }
 
-fn buffer_of_packet_and_13(rt: &HostRuntime) -> io::Result<()> {
+fn buffer_of_packet_and_13(rt: &HostRuntime) {
     let before = [0x5au8; 53];
     let mut buffer = before;
     let h = from_two(traffic::TSB, Destination::Nothing);
@@ -146,47 +136,47 @@ fn buffer_of_packet_and_13(rt: &HostRuntime) -> io::Result<()> {
     } else {
         "changed"
     };
-    println!(rt; "buffer of packet + 13: expected 13 unchanged got {number} {kept}")
+    let _ = println!(rt; "buffer of packet + 13: expected 13 unchanged got {number} {kept}");
 }
 
-fn print_fault(rt: &HostRuntime, expected: &str, fault: Option<Fault>) -> io::Result<()> {
-    match fault {
+fn print_fault(rt: &HostRuntime, expected: &str, fault: Option<Fault>) {
+    let _ = match fault {
         Some(f) => println!(rt; "{expected} got {} at {}", f.refusal.number(), f.place),
         None => println!(rt; "{expected} got 0 at 0"),
-    }
+    };
 }
 
 // A bad packet, as an indication by TSB and as a request on the TVL, with its far end as next hop.
-fn bad_packet(rt: &HostRuntime, expected: &str, packet: &[u8]) -> io::Result<()> {
+fn bad_packet(rt: &HostRuntime, expected: &str, packet: &[u8]) {
     let mut buffer = [0u8; 1294];
     let h = from_two(traffic::TSB, Destination::Nothing);
     let received = value_traffic::indication(with_one_stop(), h, packet, &mut buffer);
-    print!(rt; "indication ")?;
-    print_fault(rt, expected, received.err())?;
+    let _ = print!(rt; "indication ");
+    print_fault(rt, expected, received.err());
     let q = RequestHead {
         index: LinkIndex::TVL,
         class: 0,
         neighbour: None,
     };
     let sent = value_traffic::request(with_one_stop(), q, octets::part(packet, 24, 16), packet);
-    print!(rt; "request ")?;
-    print_fault(rt, expected, sent.err())
+    let _ = print!(rt; "request ");
+    print_fault(rt, expected, sent.err());
 }
 
-fn parts_that_are_bad(rt: &HostRuntime) -> io::Result<()> {
+fn parts_that_are_bad(rt: &HostRuntime) {
     let whole = packet();
     let cut = octets::part(&whole, 0, 39);
-    bad_packet(rt, "of 39 bytes: expected 20 at 39", cut)?;
+    bad_packet(rt, "of 39 bytes: expected 20 at 39", cut);
     let mut version_five = packet();
     version_five[0] = 0x50;
-    bad_packet(rt, "of version 5: expected 21 at 0", &version_five)?;
+    bad_packet(rt, "of version 5: expected 21 at 0", &version_five);
     let mut too_large = packet();
     too_large[5] = 1;
     bad_packet(
         rt,
         "with the length field one too large: expected 22 at 4",
         &too_large,
-    )
+    );
 }
 
 // edge-film-server, and two cases of edge-next-hop, with all that the reply gives: transport, destination, class and length, or the
@@ -219,7 +209,7 @@ fn show(
     neighbour: Option<u64>,
     hop: &[u8],
     packet: &[u8],
-) -> io::Result<()> {
+) {
     let table = with_stop(Interface {
         kind: links::ETHERNET,
         flag,
@@ -229,7 +219,7 @@ fn show(
         class: 7,
         neighbour,
     };
-    match value_traffic::request(table, h, hop, packet) {
+    let _ = match value_traffic::request(table, h, hop, packet) {
         Ok(sent) => println!(rt;
             "{expected} got {} to {} class {} length {}",
             sent.transport,
@@ -238,7 +228,7 @@ fn show(
             sent.length
         ),
         Err(fault) => println!(rt; "{expected} got {}", fault.refusal.number()),
-    }
+    };
 }
 
 // fe80::ff:fe00:1, which is 02:00:00:00:00:01's.
@@ -260,7 +250,7 @@ fn to_film_server() -> [u8; 40] {
     bytes
 }
 
-fn show_next_hops(rt: &HostRuntime) -> io::Result<()> {
+fn show_next_hops(rt: &HostRuntime) {
     let film = to_film_server();
     show(
         rt,
@@ -269,7 +259,7 @@ fn show_next_hops(rt: &HostRuntime) -> io::Result<()> {
         None,
         &mast(),
         &film,
-    )?;
+    );
     show(
         rt,
         "request to a film server as its own next hop: expected 12",
@@ -277,7 +267,7 @@ fn show_next_hops(rt: &HostRuntime) -> io::Result<()> {
         None,
         &in_internet(5),
         &film,
-    )?;
+    );
     show(
         rt,
         "request by a mast without FF FE, MID given: expected 1 to 02:00:00:00:00:02 class 7 length 40",
@@ -285,7 +275,7 @@ fn show_next_hops(rt: &HostRuntime) -> io::Result<()> {
         Some(0x0200_0000_0002),
         &in_internet(1),
         &film,
-    )?;
+    );
     show(
         rt,
         "multicast request with next hop ::: expected 3 to 1 0 0 500 300 90 class 7 length 40",
@@ -293,7 +283,7 @@ fn show_next_hops(rt: &HostRuntime) -> io::Result<()> {
         None,
         &[0u8; 16],
         &packet(),
-    )
+    );
 }
 
 // edge-operators. 2001:db8:N::/48, and 2001:db8:N:1::/64 inside it.
@@ -330,60 +320,60 @@ fn between(source: u8, destination: u8) -> [u8; 40] {
     bytes
 }
 
-fn unicast_on_the_mast(rt: &HostRuntime, expected: &str, packet: &[u8]) -> io::Result<()> {
+fn unicast_on_the_mast(rt: &HostRuntime, expected: &str, packet: &[u8]) {
     let h = from_two(traffic::GEO_UNICAST, Destination::Mid(1));
-    print_link(rt, expected, with_two_operators(), h, packet)
+    print_link(rt, expected, with_two_operators(), h, packet);
 }
 
-fn second_mast(rt: &HostRuntime, expected: &str, list: Prefixes) -> io::Result<()> {
+fn second_mast(rt: &HostRuntime, expected: &str, list: Prefixes) {
     let second = settings(rectangle(1_000, 90), plain(), list);
-    print_enabled(rt, expected, with_two_operators(), second)
+    print_enabled(rt, expected, with_two_operators(), second);
 }
 
-fn operators_on_a_mast(rt: &HostRuntime) -> io::Result<()> {
+fn operators_on_a_mast(rt: &HostRuntime) {
     unicast_on_the_mast(
         rt,
         "indication to the first operator: expected link 2",
         &between(0, 0x0a),
-    )?;
+    );
     unicast_on_the_mast(
         rt,
         "indication to the second operator: expected link 2",
         &between(0, 0x0b),
-    )?;
+    );
     unicast_on_the_mast(
         rt,
         "indication from the second operator: expected link 2",
         &between(0x0b, 0),
-    )?;
+    );
     let own = operator(0x0c);
     second_mast(
         rt,
         "second mast with a prefix inside the second operator's: expected 5",
         two_prefixes(own, inside_operator(0x0b)),
-    )?;
+    );
     second_mast(
         rt,
         "second mast with its own prefix twice: expected 5",
         two_prefixes(own, own),
-    )?;
+    );
     second_mast(
         rt,
         "second mast with five prefixes: expected 29",
         prefixes::of_four(5, own, operator(0x0d), operator(0x0e), operator(0x0f)),
-    )?;
+    );
     second_mast(
         rt,
         "second mast without a prefix: expected link 3",
         prefixes::none(),
-    )
+    );
 }
 
-fn main(rt: HostRuntime) -> io::Result<()> {
-    operators_on_a_mast(&rt)?;
-    second_stop(&rt)?;
-    broadcast_beside_the_stop(&rt)?;
-    buffer_of_packet_and_13(&rt)?;
-    parts_that_are_bad(&rt)?;
-    show_next_hops(&rt)
+fn main(rt: HostRuntime) {
+    operators_on_a_mast(&rt);
+    second_stop(&rt);
+    broadcast_beside_the_stop(&rt);
+    buffer_of_packet_and_13(&rt);
+    parts_that_are_bad(&rt);
+    show_next_hops(&rt);
 }

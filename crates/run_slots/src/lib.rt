@@ -38,8 +38,9 @@ pub fn slot_count(max: usize) -> usize
 pub fn find<Q: Question>(run: &[Slot], count: usize, asked: Q) -> Option<usize>
     ensures { result ≡ found_in (take count run.now) (Q.test asked) }
 {
-    run.iter()
-        .take(count)
+    let counted = &run[..count.min(run.len())];
+    counted
+        .iter()
         .position(|x| asked.may_pass(x) && asked.passes(x))
 }
 

@@ -81,7 +81,7 @@ impl Question for SameGround {
     }
 
     fn may_pass(self, x: &Slot) -> bool {
-        x.enabled && x.settings.area.latitude == self.normal.latitude
+        x.enabled & (x.settings.area.latitude == self.normal.latitude)
     }
 }
 

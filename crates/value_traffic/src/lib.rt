@@ -38,10 +38,21 @@ fn chosen_for(t: &Table, h: IndicationHead, packet: &[u8]) -> Chosen
     choice::chosen_for(&t.slots, head_of(t), h, packet)
 }
 
-fn link_at(t: &Table, index: LinkIndex) -> Named
-    ensures { result ≡ named t.now index }
+// The link, whose slot is looked for. It takes the table by value, so that the table is copied where a slot is looked for, and nowhere else.
+fn looked_up(t: Table, index: LinkIndex) -> Named
+    ensures { result ≡ named t index }
 {
-    run_traffic::link_at(&t.slots, head_of(t), index)
+    run_traffic::link_at(&t.slots, head_of(&t), index)
+}
+
+// The link itself. A fixed link is asked for no slot, so that no table is copied.
+fn link_at(t: Table, index: LinkIndex) -> Named
+    ensures { result ≡ named t index }
+{
+    if index.0 < LinkIndex::FIRST_STOP.0 {
+        return links::index::link_from(t.tvl, t.dgvl, t.area, index, links::blank_slot());
+    }
+    looked_up(t, index)
 }
 
 // What refuses an indication before a link is chosen, with the place of the fault.
@@ -74,11 +85,11 @@ pub fn indication(
 pub fn request(t: Table, h: RequestHead, hop: &[u8], packet: &[u8]) -> Result<Sent, Fault>
     ensures { sending_of result ≡ send t (request h hop.now packet.now) }
 {
-    leaves::request_on(link_at(&t, h.index), h, hop, packet)
+    leaves::request_on(link_at(t, h.index), h, hop, packet)
 }
 
 pub fn interface_address(t: Table, index: LinkIndex) -> Result<OwnAddress, Refusal>
     ensures { address_of result ≡ interface t index }
 {
-    leaves::address_on(link_at(&t, index).enabled, t.own)
+    leaves::address_on(link_at(t, index).enabled, t.own)
 }

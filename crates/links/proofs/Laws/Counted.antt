@@ -1,10 +1,10 @@
--- The slots that count: reading one, and the index of a slot.
-use Prim.Native.Nat.{ℕ, zero, suc, ◌+◌, ◌-◌, ◌≤◌, ◌<◌}
+-- The slots that count: their number, and reading and replacing one.
+use Prim.Native.Nat.{ℕ, zero, suc, ◌+◌, ◌-◌, ◌≤◌, ◌<◌, min}
 use native.Mathlib.Omega.{arith}
-use mathlib.Core.Path.{◌≡◌, refl}
+use mathlib.Core.Path.{◌≡◌, refl, ◌∙◌, ap}
 use mathlib.Core.Bool.{true, false}
 use mathlib.Core.List.{List, [], ◌∷◌}
-use lib.ListN.{length, get_or, length-take}
+use lib.ListN.{length, get_or, length-take, get_or-eq_default}
 use lib.Seq.{get_or-take}
 use Rattle.octets.proofs.Laws.Tests.{clash}
 use Rattle.links.specs.declared.LinkIndex.{LinkIndex}
@@ -12,6 +12,9 @@ use Rattle.links.specs.declared.Slot.{Slot}
 use Rattle.links.specs.declared.Table.{Table}
 use borrow.Author.Tests.{le-ltb}
 use Rattle.links.specs.Slots.{is_fixed, index_at, place_of, free, counted, slot_at}
+
+pub counted-length : (t : Table) (n : ℕ) → length t.slots ≡ n → length (counted t) ≡ min (t.max - 1) n
+counted-length t n e = length-take (t.max - 1) t.slots ∙ ap (min (t.max - 1)) e
 
 -- a slot that counts is read from the whole run
 pub counted-at : (t : Table) (k : ℕ) (d : Slot) → k < length (counted t) → get_or (counted t) k d ≡ get_or t.slots k d
@@ -22,6 +25,9 @@ pub enabled_below : (l : List Slot) (k : ℕ) → (get_or l k free).enabled ≡ 
 enabled_below [] k e = clash e refl
 enabled_below (x ∷ l) zero e = omega arith
 enabled_below (x ∷ l) (suc k) e = let h = enabled_below l k e in omega arith
+
+pub beyond : (l : List Slot) (k : ℕ) → length l ≤ k → get_or l k free ≡ free
+beyond l k h = get_or-eq_default l free h
 
 -- within the run the default is no matter
 pub any_default : (l : List Slot) (k : ℕ) (d e : Slot) → k < length l → get_or l k d ≡ get_or l k e

@@ -23,7 +23,7 @@ either_way true false true k false n e = refl
 either_way true false false k m n e = e
 
 -- a link passes one of two tests: one passes the first, or one the second
-any_either : (p q : Settings → Bool) (l : List Slot) → any (with (λ x. p x || q x)) l ≡ (any (with p) l || any (with q) l)
+pub any_either : (p q : Settings → Bool) (l : List Slot) → any (with (λ x. p x || q x)) l ≡ (any (with p) l || any (with q) l)
 unfolding any
 any_either p q [] = refl
 any_either p q (x ∷ l) =
@@ -34,10 +34,10 @@ module _ (l : List Slot) (s : Prefixes) where
   abbrev pub asked_at : ℕ → Bool
   asked_at k = any (with (overlaps (listed_at s k))) l
 
-  abbrev whole : Bool
+  abbrev pub whole : Bool
   whole = any (with (λ x. overlapping x.prefixes s)) l
 
-  asked_by_place : whole ≡ (asked_at 0 || (asked_at 1 || (asked_at 2 || asked_at 3)))
+  pub asked_by_place : whole ≡ (asked_at 0 || (asked_at 1 || (asked_at 2 || asked_at 3)))
   asked_by_place =
       ap (λ (q : Settings → Bool). any (with q) l) by_place ∙ any_either (at 0) (λ x. at 1 x || (at 2 x || at 3 x)) l
       ∙ ap (λ b. asked_at 0 || b) (any_either (at 1) (λ x. at 2 x || at 3 x) l ∙ ap (λ b. asked_at 1 || b) (any_either (at 2) (at 3) l))
@@ -49,7 +49,7 @@ module _ (l : List Slot) (s : Prefixes) where
       by_place i x = meets_at_lem x.prefixes s i
 
   -- nothing overlaps what is not listed
-  none_past : (k : ℕ) → s.count ≤ k → asked_at k ≡ false
+  pub none_past : (k : ℕ) → s.count ≤ k → asked_at k ≡ false
   unfolding any
   none_past k h = rw (le-ltb k s.count h) (go l)
     where

@@ -5,13 +5,16 @@ use mathlib.Core.Path.{◌≡◌, refl, sym, ◌∙◌, ap, fun_ext}
 use mathlib.Core.Bool.{Bool, true, false, cond, ◌||◌, and-false}
 use mathlib.Core.List.{List, [], ◌∷◌}
 use lib.Dec.{eqb}
+use lib.ListN.{get_or}
 use borrow.Author.Tests.{eqb-true, ne_eqb}
+use Rattle.area.specs.declared.Area.{Area}
 use Rattle.ipv6.specs.Packet.{source, destination}
+use Rattle.links.specs.declared.LinkIndex.{LinkIndex}
 use Rattle.links.specs.declared.Settings.{Settings}
 use Rattle.links.specs.declared.Slot.{Slot}
 use Rattle.links.specs.declared.Table.{Table}
 use Rattle.links.specs.Settings.{reaches}
-use Rattle.links.specs.Slots.{index_at, counted, any, with}
+use Rattle.links.specs.Slots.{dgvl_index, index_at, free, counted, any, place, with}
 use Rattle.links.specs.Index.{interface_at, chosen}
 use Rattle.links.proofs.Laws.Counted.{stop-index, place_of-index, slot_of_stop}
 use Rattle.traffic.specs.Arrives.{Indication, Link, topological, dynamic, PerhapsStop, at, nowhere, stop_by, is_area, by_area, by_destination, by_source, failing, choose, kind_of, link_index, chosen_for}
@@ -65,6 +68,40 @@ module _ (l : List Slot) (x : Indication) where
   unfolding choose by_area by_destination by_source
   choose-other e f g =
       rw (e, never (by_area x) l (λ s. rw g), never (by_destination x) l (λ s. rw f), never (by_source x) l (λ s. rw f))
+
+-- the index of what a search finds, or that of the link that is taken failing it
+pub index-found : (q : Settings → Bool) (l : List Slot) (k : Link) → link_index (failing (stop_by q l) k) ≡ cond (any (with q) l) (index_at (place (with q) l)) (link_index k)
+unfolding stop_by
+index-found q l k = go (any (with q) l)
+  where
+    go : (t : Bool) → link_index (failing (cond t (at (place (with q) l) (get_or l (place (with q) l) free).settings) nowhere) k) ≡ cond t (index_at (place (with q) l)) (link_index k)
+    go true = refl
+    go false = refl
+
+-- the index that the lines give, by the transport
+
+abbrev pub IndexOr : (Settings → Bool) → List Slot → LinkIndex → LinkIndex
+IndexOr q l other = cond (any (with q) l) (index_at (place (with q) l)) other
+
+module _ (l : List Slot) (x : Indication) where
+  pub index_unicast : x.transport ≡ 1
+      → link_index (choose l x) ≡ IndexOr (λ s. reaches s (destination x.packet)) l (IndexOr (λ s. reaches s (source x.packet)) l dgvl_index)
+  index_unicast e =
+      rw (choose_unicast l x e, index-found (λ s. reaches s (destination x.packet)) l (failing (stop_by (λ s. reaches s (source x.packet)) l) dynamic), index-found (λ s. reaches s (source x.packet)) l dynamic)
+
+  pub index-area : (eqb x.transport 2 || eqb x.transport 3) ≡ true → link_index (choose l x) ≡ IndexOr (λ s. is_area x.destination s.area) l dgvl_index
+  index-area e = rw (choose-area l x e, index-found (λ s. is_area x.destination s.area) l dynamic)
+
+-- a destination that is no area is that of no link
+pub index_no_area : (l : List Slot) (x : Indication) → (eqb x.transport 2 || eqb x.transport 3) ≡ true → ((b : Area) → is_area x.destination b ≡ false) → link_index (choose l x) ≡ dgvl_index
+index_no_area l x e h = rw (choose-area l x e, never (λ s. is_area x.destination s.area) l (λ s. h s.area))
+
+-- the first that is found is kept, and where none is the next is asked
+pub index_kept : (q : Settings → Bool) (l : List Slot) (other : LinkIndex) → any (with q) l ≡ true → IndexOr q l dgvl_index ≡ IndexOr q l other
+index_kept q l other e = rw e
+
+pub index-failing : (q : Settings → Bool) (l : List Slot) (other : LinkIndex) → any (with q) l ≡ false → other ≡ IndexOr q l other
+index-failing q l other e = rw e
 
 -- the kind of the chosen link is that of its index
 pub kind_by_index : (t : Table) (x : Indication) → kind_of t (choose (counted t) x) ≡ (interface_at t (link_index (choose (counted t) x))).kind

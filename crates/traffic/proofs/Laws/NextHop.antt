@@ -1,9 +1,10 @@
 -- What the next hop of a request decides.
+use Rattle.std.specs.Prelude.{Option}
 use Prim.Native.Nat.{ℕ, zero, suc}
 use mathlib.Core.Path.{◌≡◌, refl, sym, ◌∙◌, ap}
 use mathlib.Core.Logic.{◌≢◌}
 use mathlib.Core.Bool.{Bool, true, false}
-use mathlib.Core.List.{List}
+use mathlib.Core.List.{List, ◌++◌}
 use lib.ListN.{length}
 use Rattle.octets.proofs.Laws.Tests.{clash}
 use Rattle.replies.specs.Rules.{Rule, NoneHolds, refusal}
@@ -14,7 +15,7 @@ use Rattle.ipv6.proofs.Laws.Hops.{good_hops}
 use Rattle.links.specs.declared.Named.{Named}
 use Rattle.links.specs.declared.Table.{Table}
 use Rattle.links.specs.Index.{named}
-use Rattle.traffic.specs.Leaves.{Request, Down, request_values, resolve_rules, link_rules, request_rules, down, sending, send}
+use Rattle.traffic.specs.Leaves.{Request, Down, to_neighbour, request_values, resolve_rules, link_rules, request_rules, down, sending, send, send_named}
 use Rattle.traffic.specs.NextHop.{Nobodys, other_length, unspecified, loopback, many, by_hop, of_packet, NextHops}
 use Rattle.traffic.specs.Demands.{Demand1}
 use Rattle.traffic.proofs.Laws.Demands.{demand_1, sends}
@@ -34,6 +35,23 @@ not_good hop n = go (good_hop hop) refl n
 alike : (q : Request) (hop : List ℕ) (n : ℕ) (l : Named) → down l (by_hop q hop) ≡ down l q → sending n l (by_hop q hop) ≡ sending n l q
 alike q hop zero l e = ap (λ (d : Down). record { number = 0; place = 0; transport = d.transport; destination = d.destination; class = q.class; length = length q.packet }) e
 alike q hop (suc n) l e = refl
+
+-- next hops that are not good are answered alike
+pub nobody-alike : (l : Named) (q : Request) (hop : List ℕ) → good_hop q.next_hop ≡ false → good_hop hop ≡ false → send_named l (by_hop q hop) ≡ send_named l q
+unfolding send_named request_values link_rules resolve_rules
+nobody-alike l q hop e f =
+    let now-none = neighbour_nobody l.interface q.neighbour q.next_hop e in
+    let then-none = neighbour_nobody l.interface q.neighbour hop f in
+    let rules : request_values (by_hop q hop) ++ link_rules l (by_hop q hop) ≡ request_values q ++ link_rules l q = rw (now-none, then-none) in
+    ap (λ (rs : List Rule). sending (refusal rs) l (by_hop q hop)) rules
+    ∙ alike q hop (refusal (request_values q ++ link_rules l q)) l (same-down (multicast (destination q.packet)) refl)
+  where
+    same-down : (b : Bool) → multicast (destination q.packet) ≡ b → down l (by_hop q hop) ≡ down l q
+    same-down true e = many-down l (by_hop q hop) e ∙ sym (many-down l q e)
+    same-down false one =
+        one_down l (by_hop q hop) one
+        ∙ ap (λ (m : Option ℕ). record { transport = 1; destination = to_neighbour m }) (neighbour_nobody l.interface q.neighbour hop f ∙ sym (neighbour_nobody l.interface q.neighbour q.next_hop e))
+        ∙ sym (one_down l q one)
 
 module _ (t : Table) (q : Request) where
   -- a request that is done has passed every rule
